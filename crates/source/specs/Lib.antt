@@ -1,0 +1,4 @@
+pub mod Meanings
+pub mod Products
+pub mod Refusals
+pub mod Slots

@@ -1,0 +1,4 @@
+pub mod Cross
+pub mod Made
+pub mod Rounds
+pub mod Spelled

@@ -1,0 +1,6 @@
+use mathlib.Core.Path.{refl}
+use Rattle.units.proofs.Made.{zone-net-same}
+use Rattle.units.proofs.zone_net.ZoneNet.zero.Needs as need
+
+pub returns : need.returns
+returns c = zone-net-same _ _ refl
