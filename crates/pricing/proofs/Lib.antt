@@ -1,0 +1,4 @@
+pub mod Gathered
+pub mod Products
+pub mod Sound
+pub mod Steps
