@@ -1,8 +1,0 @@
-use Rattle.pricing.specs.Sides.{ReportedTo}
-use Rattle.pricing.specs.Tallies.{Tallied}
-use Rattle.pricing.proofs.gathering.cycles.Given as given
-
-abbrev pub Inv-loop-slot : given.InvT-loop-slot
-Inv-loop-slot g l =
-    let m = g .S·PriceSource .means (l .source) .slots in
-    Tallied m (l .slot) (l .slot) (l .tally) × ReportedTo m (l .slot)
