@@ -130,12 +130,16 @@ more-sound most w v b x (Some o) f p h some s =
     let n = between-new p f in
     let k = s .2 refl in
     let l = between-old p f (o .least .cents) (k .0) in
-    let g = between-old p f (o .greatest .cents) (k .1) in
-    (omega arith, λ _. refl,
-      λ _. (either (ltZ (p .cents) (o .least .cents)) p (o .least) (λ q. Between (Some (widened p f)) (q .cents)) n l,
-        either (ltZ (o .greatest .cents) (p .cents)) p (o .greatest) (λ q. Between (Some (widened p f)) (q .cents)) n g),
+    let g = between-old p f (o .greatest .cents) (k .1) in (
+      omega arith,
+      λ _. refl,
+      λ _. (
+        either (ltZ (p .cents) (o .least .cents)) p (o .least) (λ q. Between (Some (widened p f)) (q .cents)) n l,
+        either (ltZ (o .greatest .cents) (p .cents)) p (o .greatest) (λ q. Between (Some (widened p f)) (q .cents)) n g,
+      ),
       above v b x (p .cents) (o .least .cents) (lesser p (o .least) .cents) (lesser-least p (o .least) .1) (lesser-least p (o .least) .0) (s .3),
-      under v b x (p .cents) (o .greatest .cents) (greater p (o .greatest) .cents) (greater-greatest p (o .greatest) .1) (greater-greatest p (o .greatest) .0) (s .4))
+      under v b x (p .cents) (o .greatest .cents) (greater p (o .greatest) .cents) (greater-greatest p (o .greatest) .1) (greater-greatest p (o .greatest) .0) (s .4),
+    )
 
 -- one more slot, of the weight w
 slot-sound : (most w : ℕ) (f : Option Span) (t : Totals) (o : Option Price) (a : Option Activation) → Proper w o a
@@ -180,12 +184,17 @@ manual-sound : (d : Direction) (m : Slots) (k : ℕ) → k < 228 → ManualSound
 manual-sound d m k h =
     let w = weight-bounds k h in
     let p = counted-proper d (weight k) (m k) (w .0) in
-    let v = volume-within (weight k) (formedOf d (m k)) (countedOf d (weight k) (m k)) p in
-    (omega (arith, v, w .1), counts-priced (weight k) (formedOf d (m k)) (countedOf d (weight k) (m k)) p,
+    let v = volume-within (weight k) (formedOf d (m k)) (countedOf d (weight k) (m k)) p in (
+      omega (arith, v, w .1),
+      counts-priced (weight k) (formedOf d (m k)) (countedOf d (weight k) (m k)) p,
       priced-manual (formedOf d (m k)) (formedTo d m 228)
-      (λ q e. subst (λ n. Between (formedTo d m n) (q .cents)) (later k h) (formed-grows d m (suc k) (227 - k) (q .cents) (formed-here d m k q e))))
+          (λ q e. subst (λ n. Between (formedTo d m n) (q .cents)) (later k h) (formed-grows d m (suc k) (227 - k) (q .cents) (formed-here d m k q e))),
+    )
 
 pub side-sound : (d : Direction) (m : Slots) → Sound (sideOf d m)
-side-sound d m =
-    (cycles-later 2_250_000_000 (formedTo d m 225) (formedTo d m 228) (countingTo d m 225) (λ z b. formed-grows d m 225 3 z b) (cycles-sound d m 225 (omega arith)),
-      manual-sound d m 225 (omega arith), manual-sound d m 226 (omega arith), manual-sound d m 227 (omega arith))
+side-sound d m = (
+  cycles-later 2_250_000_000 (formedTo d m 225) (formedTo d m 228) (countingTo d m 225) (λ z b. formed-grows d m 225 3 z b) (cycles-sound d m 225 (omega arith)),
+  manual-sound d m 225 (omega arith),
+  manual-sound d m 226 (omega arith),
+  manual-sound d m 227 (omega arith),
+)

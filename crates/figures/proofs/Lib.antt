@@ -1,3 +1,4 @@
+pub mod Facts
 pub mod Gathered
 pub mod Products
 pub mod Sound

@@ -52,29 +52,37 @@ module _ (m : Slots) (k : ℕ) (w : Weighed) (is : Is m k w) where
   net-more : (z : ℤ) → z ≡ netTo m k → z +ℤ (pos (w .weight) *ℤ w .reading .demand .kw) ≡ netTo m (k + 1)
   unfolding netTo
   net-more z e =
-    rw add-one (ap (λ x. x +ℤ (pos (w .weight) *ℤ w .reading .demand .kw)) e
-    ∙ (ap (λ v. netTo m k +ℤ (pos v *ℤ w .reading .demand .kw)) (is .1) ∙ ap (λ s. netTo m k +ℤ (pos (weight k) *ℤ kwOf s)) (sym (is .0))))
+      rw add-one (ap (λ x. x +ℤ (pos (w .weight) *ℤ w .reading .demand .kw)) e
+      ∙ (ap (λ v. netTo m k +ℤ (pos v *ℤ w .reading .demand .kw)) (is .1) ∙ ap (λ s. netTo m k +ℤ (pos (weight k) *ℤ kwOf s)) (sym (is .0))))
 
   counting-more : (d : Direction) (t : Totals) → t ≡ countingTo d m k → joined (counted d (w .weight) (w .reading)) t ≡ countingTo d m (k + 1)
   unfolding countingTo
   counting-more d t e =
-    rw add-one (ap (joined (counted d (w .weight) (w .reading))) e
-    ∙ (ap (λ v. joined (counted d v (w .reading)) (countingTo d m k)) (is .1) ∙ ap (λ s. joined (countedOf d (weight k) s) (countingTo d m k)) (sym (is .0))))
+      rw add-one (ap (joined (counted d (w .weight) (w .reading))) e
+      ∙ (ap (λ v. joined (counted d v (w .reading)) (countingTo d m k)) (is .1) ∙ ap (λ s. joined (countedOf d (weight k) s) (countingTo d m k)) (sym (is .0))))
 
   pub noted-tallied : (c : ℕ) (t : Tally) → Tallied m k c t → Tallied m (k + 1) c (noting w t)
   noted-tallied c t h = record {
-    nets = net-more (t .net) (h .nets); ups = h .ups; formed-up = formed-more Up (t .«up_formed») (h .formed-up);
-    downs = h .downs; formed-down = formed-more Down (t .«down_formed») (h .formed-down) }
+    nets = net-more (t .net) (h .nets);
+    ups = h .ups;
+    formed-up = formed-more Up (t .«up_formed») (h .formed-up);
+    downs = h .downs;
+    formed-down = formed-more Down (t .«down_formed») (h .formed-down);
+  }
 
   pub counted-tallied : (n : ℕ) (t : Tally) → Tallied m n k t → Tallied m n (k + 1) (counting w t)
   counted-tallied n t h = record {
-    nets = h .nets; ups = counting-more Up (t .up) (h .ups); formed-up = h .formed-up;
-    downs = counting-more Down (t .down) (h .downs); formed-down = h .formed-down }
+    nets = h .nets;
+    ups = counting-more Up (t .up) (h .ups);
+    formed-up = h .formed-up;
+    downs = counting-more Down (t .down) (h .downs);
+    formed-down = h .formed-down;
+  }
 
   pub manual-is : (d : Direction) → manual d w ≡ manualAt d m k
   manual-is d =
-    ap (λ v. manual d (record { weight = v; reading = w .reading })) (is .1)
-    ∙ ap (λ s. record { volume = volumeOf (countedOf d (weight k) s); price = formedOf d s }) (sym (is .0))
+      ap (λ v. manual d (record { weight = v; reading = w .reading })) (is .1)
+      ∙ ap (λ s. record { volume = volumeOf (countedOf d (weight k) s); price = formedOf d s }) (sym (is .0))
 
   pub is-reported : reported (m k) ≡ true
   is-reported = ap reported (is .0)
@@ -134,17 +142,17 @@ module _ (M : Meaning) (t a b e : Tally) (s : ManualSlots) (cycles : Tallied (M 
 
   all-reported : ReportedTo (M .slots) 228
   all-reported =
-    below-more (λ k. reported (M .slots k) ≡ true) 227
-    (below-more (λ k. reported (M .slots k) ≡ true) 226
-    (below-more (λ k. reported (M .slots k) ≡ true) 225 (cycles .1) (is-reported (M .slots) 225 (s .scheduled) is)) (is-reported (M .slots) 226 (s .«direct_up») iu))
-    (is-reported (M .slots) 227 (s .«direct_down») iw)
+      below-more (λ k. reported (M .slots k) ≡ true) 227
+      (below-more (λ k. reported (M .slots k) ≡ true) 226
+      (below-more (λ k. reported (M .slots k) ≡ true) 225 (cycles .1) (is-reported (M .slots) 225 (s .scheduled) is)) (is-reported (M .slots) 226 (s .«direct_up») iu))
+      (is-reported (M .slots) 227 (s .«direct_down») iw)
 
   side-is : (d : Direction) (c : Totals) (f : Option Span) (r : Side) → r ≡ sideFrom d c f s → c ≡ countingTo d (M .slots) 225 → f ≡ formedTo d (M .slots) 228 → r ≡ sideOf d (M .slots)
   side-is d c f r x y z =
-    let p = manual-is (M .slots) 225 (s .scheduled) is d in
-    let q = manual-is (M .slots) 226 (s .«direct_up») iu d in
-    let v = manual-is (M .slots) 227 (s .«direct_down») iw d in
-    cc
+      let p = manual-is (M .slots) 225 (s .scheduled) is d in
+      let q = manual-is (M .slots) 226 (s .«direct_up») iu d in
+      let v = manual-is (M .slots) 227 (s .«direct_down») iw d in
+      cc
 
   pub first-room : natAbs (a .net) ≤ 513_000_000_000
   first-room = net-room (M .slots) 226 225 a (omega arith) first-tallied
@@ -153,8 +161,12 @@ module _ (M : Meaning) (t a b e : Tally) (s : ManualSlots) (cycles : Tallied (M 
   second-room = net-room (M .slots) 227 225 b (omega arith) second-tallied
 
   pub quarter-given : (net : ℤ) (zone : ZoneNet) (o : Option Price) (above below : Side) → net ≡ e .net → zone ≡ M .zone → o ≡ M .avoided
-    → above ≡ sideFrom Up (e .up) (e .«up_formed») s → below ≡ sideFrom Down (e .down) (e .«down_formed») s → Given M net zone o above below
+      → above ≡ sideFrom Up (e .up) (e .«up_formed») s → below ≡ sideFrom Down (e .down) (e .«down_formed») s → Given M net zone o above below
   quarter-given net zone o above below n z v x y = record {
-    all = all-reported; nets = n ∙ all-tallied .nets; zones = z; saves = v;
+    all = all-reported;
+    nets = n ∙ all-tallied .nets;
+    zones = z;
+    saves = v;
     ups = side-is Up (e .up) (e .«up_formed») above x (all-tallied .ups) (all-tallied .formed-up);
-    downs = side-is Down (e .down) (e .«down_formed») below y (all-tallied .downs) (all-tallied .formed-down) }
+    downs = side-is Down (e .down) (e .«down_formed») below y (all-tallied .downs) (all-tallied .formed-down);
+  }

@@ -1,3 +1,4 @@
+pub mod Components
 pub mod Counting
 pub mod Gathering
 pub mod Refusals

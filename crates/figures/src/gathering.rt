@@ -15,8 +15,11 @@ use source::product::weight_of;
 use source::slot::Slot;
 
 const CYCLES: usize = 225;
+
 const SCHEDULED: usize = 225;
+
 const DIRECT_UP: usize = 226;
+
 const DIRECT_DOWN: usize = 227;
 
 fn weighed<S: PriceSource>(source: &S, slot: usize) -> Result<Weighed, UnreportedSlot>
@@ -27,7 +30,10 @@ fn weighed<S: PriceSource>(source: &S, slot: usize) -> Result<Weighed, Unreporte
         return Err(UnreportedSlot { slot });
     };
     match told {
-        Slot::Reported(reading) => Ok(Weighed { weight: weight_of(slot), reading }),
+        Slot::Reported(reading) => Ok(Weighed {
+            weight: weight_of(slot),
+            reading,
+        }),
         Slot::Unreported => Err(UnreportedSlot { slot }),
     }
 }
@@ -76,8 +82,15 @@ pub fn figures_of<S: PriceSource>(source: &S) -> Result<Figures, UnreportedSlot>
     let scheduled = weighed(source, SCHEDULED)?;
     let direct_up = weighed(source, DIRECT_UP)?;
     let direct_down = weighed(source, DIRECT_DOWN)?;
-    let all = tally.noting(scheduled).noting(direct_up).noting(direct_down);
-    let manual = ManualSlots { scheduled, direct_up, direct_down };
+    let all = tally
+        .noting(scheduled)
+        .noting(direct_up)
+        .noting(direct_down);
+    let manual = ManualSlots {
+        scheduled,
+        direct_up,
+        direct_down,
+    };
     Ok(Figures {
         local_net: all.net,
         zone_net: source.zone_net(),

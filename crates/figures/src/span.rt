@@ -27,7 +27,10 @@ impl Span {
         ensures { λ r. ⌜ r ≡ widened price span ⌝ }
     {
         match span {
-            None => Span { least: price, greatest: price },
+            None => Span {
+                least: price,
+                greatest: price,
+            },
             Some(wide) => Span {
                 least: lesser_of(price, wide.least),
                 greatest: greater_of(price, wide.greatest),

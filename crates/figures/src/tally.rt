@@ -58,7 +58,10 @@ impl Weighed {
     {
         let size = demand_in(self.reading, direction);
         match self.reading.formed(direction) {
-            Some(price) if size > 0 => Some(Activation { volume: self.weight * size, price }),
+            Some(price) if size > 0 => Some(Activation {
+                volume: self.weight * size,
+                price,
+            }),
             _ => None,
         }
     }
@@ -71,7 +74,10 @@ impl Weighed {
             Some(activation) => activation.volume,
             None => 0,
         };
-        Manual { volume, price: self.reading.formed(direction) }
+        Manual {
+            volume,
+            price: self.reading.formed(direction),
+        }
     }
 }
 
@@ -97,8 +103,18 @@ impl Tally {
     pub(crate) fn blank() -> Tally
         ensures { λ r. ⌜ r ≡ blank ⌝ }
     {
-        let none = Totals { volume: 0, value: 0, span: None };
-        Tally { net: 0, up: none, up_formed: None, down: none, down_formed: None }
+        let none = Totals {
+            volume: 0,
+            value: 0,
+            span: None,
+        };
+        Tally {
+            net: 0,
+            up: none,
+            up_formed: None,
+            down: none,
+            down_formed: None,
+        }
     }
 
     // The demand and the formed prices of one slot more.

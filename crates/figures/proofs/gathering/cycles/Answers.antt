@@ -37,6 +37,7 @@ loop-slot-again g c =
     let k = c .loop-slot .slot in
     let w = c .in-Continue-cycle .cycle in
     let is = c .in-Continue-cycle .ensures tt in
-    let n = subst (Tallied m (k + 1) k) (sym (c .noting .ensures)) (noted-tallied m k w is k (c .loop-slot .tally) (c .loop-slot .inv .0)) in
-    (subst (Tallied m (k + 1) (k + 1)) (sym (c .counting-tally .ensures)) (counted-tallied m k w is (k + 1) (c .noting .result) n),
-      below-more _ _ (c .loop-slot .inv .1) (is-reported m k w is))
+    let n = subst (Tallied m (k + 1) k) (sym (c .noting .ensures)) (noted-tallied m k w is k (c .loop-slot .tally) (c .loop-slot .inv .0)) in (
+      subst (Tallied m (k + 1) (k + 1)) (sym (c .counting-tally .ensures)) (counted-tallied m k w is (k + 1) (c .noting .result) n),
+      below-more _ _ (c .loop-slot .inv .1) (is-reported m k w is),
+    )

@@ -21,9 +21,9 @@ noting-requires-2 g c κs =
     record {
       light = light (m .slots) 226 (c .in-Continue-direct-up .direct-up) (omega arith) (c .in-Continue-direct-up .ensures tt);
       room = first-room m (c .in-Continue-tally .tally) (c .noting .result) _ _
-        (record { scheduled = c .in-Continue-scheduled .scheduled; «direct_up» = c .in-Continue-direct-up .direct-up; «direct_down» = c .in-Continue-direct-down .direct-down })
-        (c .in-Continue-tally .ensures tt) (c .in-Continue-scheduled .ensures tt) (c .in-Continue-direct-up .ensures tt) (c .in-Continue-direct-down .ensures tt)
-        (c .noting .ensures) refl refl;
+          (record { scheduled = c .in-Continue-scheduled .scheduled; «direct_up» = c .in-Continue-direct-up .direct-up; «direct_down» = c .in-Continue-direct-down .direct-down })
+          (c .in-Continue-tally .ensures tt) (c .in-Continue-scheduled .ensures tt) (c .in-Continue-direct-up .ensures tt) (c .in-Continue-direct-down .ensures tt)
+          (c .noting .ensures) refl refl;
     }
 
 pub noting-all-requires : need.noting-all-requires
@@ -32,20 +32,25 @@ noting-all-requires g c κs =
     record {
       light = light (m .slots) 227 (c .in-Continue-direct-down .direct-down) (omega arith) (c .in-Continue-direct-down .ensures tt);
       room = second-room m (c .in-Continue-tally .tally) (c .noting .result) (c .noting-2 .result) _
-        (record { scheduled = c .in-Continue-scheduled .scheduled; «direct_up» = c .in-Continue-direct-up .direct-up; «direct_down» = c .in-Continue-direct-down .direct-down })
-        (c .in-Continue-tally .ensures tt) (c .in-Continue-scheduled .ensures tt) (c .in-Continue-direct-up .ensures tt) (c .in-Continue-direct-down .ensures tt)
-        (c .noting .ensures) (c .noting-2 .ensures) refl;
+          (record { scheduled = c .in-Continue-scheduled .scheduled; «direct_up» = c .in-Continue-direct-up .direct-up; «direct_down» = c .in-Continue-direct-down .direct-down })
+          (c .in-Continue-tally .ensures tt) (c .in-Continue-scheduled .ensures tt) (c .in-Continue-direct-up .ensures tt) (c .in-Continue-direct-down .ensures tt)
+          (c .noting .ensures) (c .noting-2 .ensures) refl;
     }
 
 pub ghost-result : need.ghost-result
 ghost-result g c =
     let m = g .S·PriceSource .means (c .args .source .now) in
-    let f : SFits w64 (c .noting-all .result .net) = search needs in
-    (∣ (m, quarter-given m (c .in-Continue-tally .tally) (c .noting .result) (c .noting-2 .result) (c .noting-all .result)
-      (record { scheduled = c .in-Continue-scheduled .scheduled; «direct_up» = c .in-Continue-direct-up .direct-up; «direct_down» = c .in-Continue-direct-down .direct-down })
-      (c .in-Continue-tally .ensures tt) (c .in-Continue-scheduled .ensures tt) (c .in-Continue-direct-up .ensures tt) (c .in-Continue-direct-down .ensures tt)
-      (c .noting .ensures) (c .noting-2 .ensures) (c .noting-all .ensures) _ _ _ _ _ (toZ-ofZ w64 (c .noting-all .result .net) f) (c .zone-net .ensures) (c .avoided .ensures)
-      (c .side .ensures) (c .side-2 .ensures)) ∣₁, tt)
+    let f : SFits w64 (c .noting-all .result .net) = search needs in (
+      ∣ (
+        m,
+        quarter-given m (c .in-Continue-tally .tally) (c .noting .result) (c .noting-2 .result) (c .noting-all .result)
+            (record { scheduled = c .in-Continue-scheduled .scheduled; «direct_up» = c .in-Continue-direct-up .direct-up; «direct_down» = c .in-Continue-direct-down .direct-down })
+            (c .in-Continue-tally .ensures tt) (c .in-Continue-scheduled .ensures tt) (c .in-Continue-direct-up .ensures tt) (c .in-Continue-direct-down .ensures tt)
+            (c .noting .ensures) (c .noting-2 .ensures) (c .noting-all .ensures) _ _ _ _ _ (toZ-ofZ w64 (c .noting-all .result .net) f) (c .zone-net .ensures) (c .avoided .ensures)
+            (c .side .ensures) (c .side-2 .ensures),
+      ) ∣₁,
+      tt,
+    )
 
 pub returns : need.returns
 returns g c =
