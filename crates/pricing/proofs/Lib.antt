@@ -1,0 +1,5 @@
+pub mod Covers
+pub mod Fits
+pub mod Lawful
+pub mod Quoting
+pub mod Reach

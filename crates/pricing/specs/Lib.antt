@@ -1,0 +1,5 @@
+pub mod Laws
+pub mod Outcomes
+pub mod Quotes
+pub mod Refusals
+pub mod Rulings
