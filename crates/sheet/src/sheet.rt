@@ -1,0 +1,49 @@
+// A packed sheet as a price source.
+ghost use mathlib.Core.Path.{_≡_};
+ghost use denote.Ref.{now};
+ghost use Rattle.sheet.specs.Sheets.{sheetSlots, sheetNet, sheetAvoided, firstFault, sheetMeaning};
+use crate::fault::SheetFault;
+use source::price_source::PriceSource;
+use source::slot::NoSuchSlot;
+use source::slot::Slot;
+use units::price::Price;
+use units::zone_net::ZoneNet;
+
+/// A sheet of any bytes, with what they tell and their first fault.
+#[derive(Drop)]
+pub struct Sheet<'a> {
+    bytes: &'a [u8],
+    slots: [Slot; 228],
+    zone_net: ZoneNet,
+    avoided: Option<Price>,
+    checked: Result<(), SheetFault>,
+    ghost tells: { slots ≡ sheetSlots (now bytes) },
+    ghost nets: { «zone_net» ≡ sheetNet (now bytes) },
+    ghost avoids: { avoided ≡ sheetAvoided (now bytes) },
+    ghost refuses: { checked ≡ firstFault (now bytes) },
+}
+
+impl<'a> Sheet<'a> {
+    /// The first fault from the front of the sheet, or that there is none.
+    pub fn check(&self) -> Result<(), SheetFault>
+        ensures { λ r. ⌜ r ≡ firstFault (now (now (self .entry) .bytes)) ⌝ }
+    {
+        self.checked
+    }
+}
+
+pub impl PriceSource for Sheet<'_> as SheetSource {
+    ghost means = { λ s. sheetMeaning (now (s .bytes)) };
+
+    fn slot(&self, slot: usize) -> Result<Slot, NoSuchSlot> {
+        if slot < 228 { Ok(self.slots[slot]) } else { Err(NoSuchSlot { slot }) }
+    }
+
+    fn zone_net(&self) -> ZoneNet {
+        self.zone_net
+    }
+
+    fn avoided(&self) -> Option<Price> {
+        self.avoided
+    }
+}
