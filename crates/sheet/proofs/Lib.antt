@@ -1,1 +1,3 @@
+pub mod Leads
 pub mod Quantities
+pub mod Standings

@@ -44,6 +44,19 @@ impl<'a> Reader<'a> {
         Ok(Some(record))
     }
 
+    // Tells the slots from slot 0 on, up to the first fault; from there on they are unreported.
+    pub(crate) fn tell(&mut self, slots: &mut [Slot]) -> Result<(), SheetFault>
+        requires { ⌜ now self .slot ≡ 0 ⌝ ∗ ⌜ length (now slots) ≡ 228 ⌝ }
+        ensures tells { λ _. ⌜ now (slots .exit) ≡ slotsFrom (now (now (self .entry) .sheet)) (now (self .entry) .at) .0 ⌝ }
+        ensures refuses { λ r. ⌜ r ≡ closed (now (now (self .entry) .sheet)) (slotsFrom (now (now (self .entry) .sheet)) (now (self .entry) .at) .1) ⌝ }
+    {
+        slots.fill(Slot::Unreported);
+        while let Some(_) = self.next()? {
+            slots[self.slot - 1] = self.told;
+        }
+        Ok(())
+    }
+
     /// What the record told that was read last.
     pub fn told(&self) -> Slot
         ensures { λ r. ⌜ r ≡ standing (now (self .entry)) .told ⌝ }

@@ -3,6 +3,8 @@ ghost use mathlib.Core.Path.{_≡_};
 ghost use denote.Ref.{now};
 ghost use Rattle.sheet.specs.Sheets.{sheetSlots, sheetNet, sheetAvoided, firstFault, sheetMeaning};
 use crate::fault::SheetFault;
+use crate::head::Head;
+use crate::reader::Reader;
 use source::price_source::PriceSource;
 use source::slot::NoSuchSlot;
 use source::slot::Slot;
@@ -24,6 +26,22 @@ pub struct Sheet<'a> {
 }
 
 impl<'a> Sheet<'a> {
+    /// The sheet of any bytes, decoded once.
+    pub fn read(bytes: &'a [u8]) -> Sheet<'a>
+        ensures { λ r. ⌜ now (r .bytes) ≡ now (bytes .entry) ⌝ }
+    {
+        let mut slots = [Slot::Unreported; 228];
+        match Head::read(bytes) {
+            Ok(head) => {
+                let checked = Reader::after(bytes, head).tell(&mut slots);
+                Sheet { bytes, slots, zone_net: head.zone_net, avoided: head.avoided, checked }
+            }
+            Err(fault) => {
+                Sheet { bytes, slots, zone_net: ZoneNet::zero(), avoided: None, checked: Err(fault) }
+            }
+        }
+    }
+
     /// The first fault from the front of the sheet, or that there is none.
     pub fn check(&self) -> Result<(), SheetFault>
         ensures { λ r. ⌜ r ≡ firstFault (now (now (self .entry) .bytes)) ⌝ }
