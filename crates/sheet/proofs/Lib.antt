@@ -1,3 +1,4 @@
 pub mod Leads
 pub mod Quantities
 pub mod Standings
+pub mod Telling
