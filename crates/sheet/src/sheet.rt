@@ -31,15 +31,14 @@ impl<'a> Sheet<'a> {
         ensures { λ r. ⌜ now (r .bytes) ≡ now (bytes .entry) ⌝ }
     {
         let mut slots = [Slot::Unreported; 228];
-        match Head::read(bytes) {
-            Ok(head) => {
-                let checked = Reader::after(bytes, head).tell(&mut slots);
-                Sheet { bytes, slots, zone_net: head.zone_net, avoided: head.avoided, checked }
-            }
+        let head = match Head::read(bytes) {
+            Ok(head) => head,
             Err(fault) => {
-                Sheet { bytes, slots, zone_net: ZoneNet::zero(), avoided: None, checked: Err(fault) }
+                return Sheet { bytes, slots, zone_net: ZoneNet::zero(), avoided: None, checked: Err(fault) };
             }
-        }
+        };
+        let checked = Reader::after(bytes, head).tell(&mut slots);
+        Sheet { bytes, slots, zone_net: head.zone_net, avoided: head.avoided, checked }
     }
 
     /// The first fault from the front of the sheet, or that there is none.
