@@ -38,9 +38,12 @@ pair p s = pairFrom p s (quantity demandOf p s 0)
 abbrev pub Told : Type 0
 Told = Result (Slot × ℕ) RecordFault
 
+abbrev pub reportedSlot : Demand → Option Price → Option Price → Slot
+reportedSlot d u v = Reported (record { demand = d; up = u; down = v })
+
 -- a demand with the prices formed for it, in n bytes after the lead byte
 abbrev pub reported : Demand → Option Price → Option Price → ℕ → Told
-reported d u v n = Ok (Reported (record { demand = d; up = u; down = v }), 1 + n)
+reported d u v n = Ok (reportedSlot d u v, 1 + n)
 
 -- a fault in a number is the record's
 abbrev pub onward : {X : Type 0} → Result X NumberFault → (X → Told) → Told

@@ -29,7 +29,9 @@ fn check_opening(sheet: &[u8]) -> Result<(), SheetFault>
 {
     match sheet {
         [b'I', b'S', b'P', b'1', ..] => Ok(()),
-        [] | [b'I'] | [b'I', b'S'] | [b'I', b'S', b'P'] => Err(SheetFault::Ends { place: sheet.len() }),
+        [] | [b'I'] | [b'I', b'S'] | [b'I', b'S', b'P'] => Err(SheetFault::Ends {
+            place: sheet.len(),
+        }),
         [b'I', b'S', b'P', ..] => Err(SheetFault::Opening { place: 3 }),
         [b'I', b'S', ..] => Err(SheetFault::Opening { place: 2 }),
         [b'I', ..] => Err(SheetFault::Opening { place: 1 }),
@@ -48,7 +50,14 @@ fn read_avoided(sheet: &[u8], at: usize) -> Result<(Option<Price>, usize), Sheet
     match sheet[at] {
         0 => Ok((None, at + 1)),
         1 => {
-            let (price, end) = read_quantity(sheet, at + 1, Spot { place: 0, slot: HEAD })?;
+            let (price, end) = read_quantity(
+                sheet,
+                at + 1,
+                Spot {
+                    place: 0,
+                    slot: HEAD,
+                },
+            )?;
             Ok((Some(price), end))
         }
         _ => Err(SheetFault::Flag { place: at }),
@@ -62,8 +71,19 @@ impl Head {
         ensures within { λ r. ⌜ onOk r (λ h. h .end ≤ length (now (sheet .entry))) ⌝ }
     {
         check_opening(sheet)?;
-        let (zone_net, at) = read_quantity(sheet, 4, Spot { place: 0, slot: HEAD })?;
+        let (zone_net, at) = read_quantity(
+            sheet,
+            4,
+            Spot {
+                place: 0,
+                slot: HEAD,
+            },
+        )?;
         let (avoided, end) = read_avoided(sheet, at)?;
-        Ok(Head { zone_net, avoided, end })
+        Ok(Head {
+            zone_net,
+            avoided,
+            end,
+        })
     }
 }

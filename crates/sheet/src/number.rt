@@ -29,7 +29,10 @@ fn read_groups(s: &[u8]) -> Result<(u32, usize), GroupsFault>
         [_, _] => Err(GroupsFault::Ends),
         [_, _, 0, ..] => Err(GroupsFault::Form),
         [a, b, c, ..] if *c < 128 => {
-            Ok((*a as u32 - 128 + 128 * (*b as u32 - 128) + 16384 * *c as u32, 3))
+            Ok((
+                *a as u32 - 128 + 128 * (*b as u32 - 128) + 16384 * *c as u32,
+                3,
+            ))
         }
         [_, _, _] => Err(GroupsFault::Ends),
         [_, _, _, 0 | 128.., ..] => Err(GroupsFault::Form),
@@ -43,23 +46,37 @@ fn read_groups(s: &[u8]) -> Result<(u32, usize), GroupsFault>
 fn unfold_sign(u: u32) -> i64
     ensures { λ r. ⌜ r ≡ unfolded u ⌝ }
 {
-    if u % 2 == 0 { (u / 2) as i64 } else { -((u / 2) as i64) - 1 }
+    if u % 2 == 0 {
+        (u / 2) as i64
+    } else {
+        -((u / 2) as i64) - 1
+    }
 }
 
 // The number that begins at the byte `from` of `s`, and where it ends; `s` begins at `start`.
-pub(crate) fn read_quantity<Q: Quantity>(s: &[u8], from: usize, start: Spot) -> Result<(Q, usize), NumberFault>
+pub(crate) fn read_quantity<Q: Quantity>(
+    s: &[u8],
+    from: usize,
+    start: Spot,
+) -> Result<(Q, usize), NumberFault>
     requires { ⌜ from ≤ length (now s) ⌝ ∗ ⌜ start .place + length (now s) < 2 ^ 64 ⌝ }
     ensures value { λ r. ⌜ r ≡ quantity (Q·Quantity .made) start (now (s .entry)) from ⌝ }
     ensures within { λ r. ⌜ onOk r (λ p. p .1 ≤ length (now (s .entry))) ⌝ }
 {
-    let spot = Spot { place: start.place + from, slot: start.slot };
+    let spot = Spot {
+        place: start.place + from,
+        slot: start.slot,
+    };
     match read_groups(&s[from..]) {
         Ok((u, n)) => match Q::new(unfold_sign(u)) {
             Ok(q) => Ok((q, from + n)),
             Err(_) => Err(NumberFault::Bounds(spot)),
         },
         Err(GroupsFault::Ends) => {
-            let end = Spot { place: start.place + s.len(), slot: start.slot };
+            let end = Spot {
+                place: start.place + s.len(),
+                slot: start.slot,
+            };
             Err(NumberFault::Ends(end))
         }
         Err(GroupsFault::Form) => Err(NumberFault::Form(spot)),

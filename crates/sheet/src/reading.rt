@@ -8,20 +8,28 @@ use crate::fault::SheetFaultFromRecord;
 use crate::fault::Spot;
 use crate::head::Head;
 use crate::reader::Reader;
+use crate::reader::SLOTS;
+use crate::slot_record::Record;
 use crate::slot_record::read_slot;
 use crate::slot_record::record_of;
-use crate::slot_record::Record;
 use source::slot::Slot;
-
-const SLOTS: usize = 228;
 
 impl<'a> Reader<'a> {
     /// A reader before slot 0 of the sheet, whose records begin where its head ends.
     pub fn after(sheet: &'a [u8], head: Head) -> Reader<'a>
         ensures { λ r. ⌜ standing r ≡ begins (now (sheet .entry)) (head .end) ⌝ }
     {
-        let at = if head.end < sheet.len() { head.end } else { sheet.len() };
-        Reader { sheet, at, slot: 0, told: Slot::Unreported }
+        let at = if head.end < sheet.len() {
+            head.end
+        } else {
+            sheet.len()
+        };
+        Reader {
+            sheet,
+            at,
+            slot: 0,
+            told: Slot::Unreported,
+        }
     }
 
     /// The record of the next slot; after slot 227 none, or the fault that bytes are left.
@@ -36,7 +44,11 @@ impl<'a> Reader<'a> {
             }
             return Ok(None);
         }
-        let (told, size) = read_slot(&self.sheet[at..], Spot { place: at, slot: self.slot })?;
+        let spot = Spot {
+            place: at,
+            slot: self.slot,
+        };
+        let (told, size) = read_slot(&self.sheet[at..], spot)?;
         let record = record_of(told, &self.sheet[at + 1..at + size], at + 1);
         self.told = told;
         self.at = at + size;
@@ -55,12 +67,5 @@ impl<'a> Reader<'a> {
             slots[self.slot - 1] = self.told;
         }
         Ok(())
-    }
-
-    /// What the record told that was read last.
-    pub fn told(&self) -> Slot
-        ensures { λ r. ⌜ r ≡ standing (now (self .entry)) .told ⌝ }
-    {
-        self.told
     }
 }

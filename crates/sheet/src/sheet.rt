@@ -5,6 +5,7 @@ ghost use Rattle.sheet.specs.Sheets.{sheetSlots, sheetNet, sheetAvoided, first
 use crate::fault::SheetFault;
 use crate::head::Head;
 use crate::reader::Reader;
+use crate::reader::SLOTS;
 use source::price_source::PriceSource;
 use source::slot::NoSuchSlot;
 use source::slot::Slot;
@@ -15,7 +16,7 @@ use units::zone_net::ZoneNet;
 #[derive(Drop)]
 pub struct Sheet<'a> {
     bytes: &'a [u8],
-    slots: [Slot; 228],
+    slots: [Slot; SLOTS],
     zone_net: ZoneNet,
     avoided: Option<Price>,
     checked: Result<(), SheetFault>,
@@ -30,15 +31,27 @@ impl<'a> Sheet<'a> {
     pub fn read(bytes: &'a [u8]) -> Sheet<'a>
         ensures { λ r. ⌜ now (r .bytes) ≡ now (bytes .entry) ⌝ }
     {
-        let mut slots = [Slot::Unreported; 228];
+        let mut slots = [Slot::Unreported; SLOTS];
         let head = match Head::read(bytes) {
             Ok(head) => head,
             Err(fault) => {
-                return Sheet { bytes, slots, zone_net: ZoneNet::zero(), avoided: None, checked: Err(fault) };
+                return Sheet {
+                    bytes,
+                    slots,
+                    zone_net: ZoneNet::zero(),
+                    avoided: None,
+                    checked: Err(fault),
+                };
             }
         };
         let checked = Reader::after(bytes, head).tell(&mut slots);
-        Sheet { bytes, slots, zone_net: head.zone_net, avoided: head.avoided, checked }
+        Sheet {
+            bytes,
+            slots,
+            zone_net: head.zone_net,
+            avoided: head.avoided,
+            checked,
+        }
     }
 
     /// The first fault from the front of the sheet, or that there is none.
@@ -53,7 +66,11 @@ pub impl PriceSource for Sheet<'_> as SheetSource {
     ghost means = { λ s. sheetMeaning (now (s .bytes)) };
 
     fn slot(&self, slot: usize) -> Result<Slot, NoSuchSlot> {
-        if slot < 228 { Ok(self.slots[slot]) } else { Err(NoSuchSlot { slot }) }
+        if slot < SLOTS {
+            Ok(self.slots[slot])
+        } else {
+            Err(NoSuchSlot { slot })
+        }
     }
 
     fn zone_net(&self) -> ZoneNet {

@@ -3,7 +3,7 @@ ghost use mathlib.Core.Path.{_≡_};
 ghost use Prim.Native.Nat.{_+_, _^_, _<_, _≤_};
 ghost use lib.ListN.{length};
 ghost use Rattle.std.specs.Vec.{made as onOk};
-ghost use Rattle.sheet.specs.Records.{pair, slotTold};
+ghost use Rattle.sheet.specs.Records.{pair, reportedSlot, slotTold};
 ghost use Rattle.sheet.specs.Readers.{seen, viewOf};
 use crate::fault::NumberFault;
 use crate::fault::RecordFault;
@@ -53,6 +53,12 @@ fn read_pair(s: &[u8], start: Spot) -> Result<(Demand, Price, usize), NumberFaul
     Ok((demand, price, end))
 }
 
+fn reported(demand: Demand, up: Option<Price>, down: Option<Price>) -> Slot
+    ensures { λ r. ⌜ r ≡ reportedSlot demand up down ⌝ }
+{
+    Slot::Reported(Reading { demand, up, down })
+}
+
 // What the record at the front of `s` tells, and how many bytes it has; `s` begins at `spot`.
 pub(crate) fn read_slot(s: &[u8], spot: Spot) -> Result<(Slot, usize), RecordFault>
     requires { ⌜ spot .place + length (now s) < 2 ^ 64 ⌝ }
@@ -62,25 +68,28 @@ pub(crate) fn read_slot(s: &[u8], spot: Spot) -> Result<(Slot, usize), RecordFau
     let [lead, rest @ ..] = s else {
         return Err(RecordFault::Ends(spot));
     };
-    let start = Spot { place: spot.place + 1, slot: spot.slot };
+    let start = Spot {
+        place: spot.place + 1,
+        slot: spot.slot,
+    };
     match *lead {
         0 => Ok((Slot::Unreported, 1)),
         1 => {
             let (demand, end) = read_quantity(rest, 0, start)?;
-            Ok((Slot::Reported(Reading { demand, up: None, down: None }), 1 + end))
+            Ok((reported(demand, None, None), 1 + end))
         }
         2 => {
             let (demand, up, end) = read_pair(rest, start)?;
-            Ok((Slot::Reported(Reading { demand, up: Some(up), down: None }), 1 + end))
+            Ok((reported(demand, Some(up), None), 1 + end))
         }
         3 => {
             let (demand, down, end) = read_pair(rest, start)?;
-            Ok((Slot::Reported(Reading { demand, up: None, down: Some(down) }), 1 + end))
+            Ok((reported(demand, None, Some(down)), 1 + end))
         }
         4 => {
             let (demand, up, n) = read_pair(rest, start)?;
             let (down, end) = read_quantity(rest, n, start)?;
-            Ok((Slot::Reported(Reading { demand, up: Some(up), down: Some(down) }), 1 + end))
+            Ok((reported(demand, Some(up), Some(down)), 1 + end))
         }
         _ => Err(RecordFault::Lead(spot)),
     }

@@ -20,7 +20,7 @@ returns-in-Ok-new g c =
     let e = by-groups (g .Q·Quantity .made) (c .args .start) (c .args .s .now) (c .args .from) (Ok (c .in-Ok .u, c .in-Ok .n)) (k .value) in
     record {
       value = ap (bounded (ahead (c .args .start) (c .args .from)) (c .args .from + c .in-Ok .n)) (h ∙ ap (g .Q·Quantity .made) (c .unfold-sign .ensures)) ∙ e;
-      within = omega (arith, simp (length-take, length-drop) at (k .fits .1))
+      within = omega (arith, simp (length-take, length-drop) at (k .fits .1));
     }
 
 pub returns-in-Err : need.returns-in-Err
@@ -30,7 +30,7 @@ returns-in-Err g c =
     let e = by-groups (g .Q·Quantity .made) (c .args .start) (c .args .s .now) (c .args .from) (Ok (c .in-Ok .u, c .in-Ok .n)) (c .in-Ok .ensures tt .value) in
     record {
       value = ap (bounded (ahead (c .args .start) (c .args .from)) (c .args .from + c .in-Ok .n)) (h ∙ ap (g .Q·Quantity .made) (c .unfold-sign .ensures)) ∙ e;
-      within = tt
+      within = tt;
     }
 
 pub returns-in-Err-Ends : need.returns-in-Err-Ends

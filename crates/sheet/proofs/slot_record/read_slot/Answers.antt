@@ -7,7 +7,7 @@ use Rattle.std.proofs.shelf.Results.{err-from-errBy}
 use Rattle.std.specs.declared.result.Result.the-variants.{Ok, Err}
 use Rattle.units.specs.declared.demand.Demand.{Demand}
 use Rattle.units.specs.declared.price.Price.{Price}
-use Rattle.sheet.proofs.Leads.{unreported-led, demand-led, up-led, down-led, both-led, second, unknown-led}
+use Rattle.sheet.proofs.Leads.{same-told, unreported-led, demand-led, up-led, down-led, both-led, second, unknown-led}
 use Rattle.sheet.proofs.slot_record.read_slot.Needs as need
 
 pub returns-in-0 : need.returns-in-0
@@ -47,19 +47,19 @@ pub returns-in-Continue-demand : need.returns-in-Continue-demand
 returns-in-Continue-demand c =
     let l : 0 < length (c .args .s .now) = search needs in
     let e = c .in-Continue-demand .ensures tt .value in
-    record { value = demand-led (c .args .spot) (c .args .s .now) l (c .in-1 .is) (Ok (c .in-Continue-demand .demand, c .in-Continue-demand .end)) e; within = search needs }
+    record { value = same-told _ (c .reported .ensures) ∙ demand-led (c .args .spot) (c .args .s .now) l (c .in-1 .is) (Ok (c .in-Continue-demand .demand, c .in-Continue-demand .end)) e; within = search needs }
 
 pub returns-in-Continue-demand-2 : need.returns-in-Continue-demand-2
 returns-in-Continue-demand-2 c =
     let l : 0 < length (c .args .s .now) = search needs in
     let e = c .in-Continue-demand-2 .ensures tt .value in
-    record { value = up-led (c .args .spot) (c .args .s .now) l (c .in-2 .is) (Ok (c .in-Continue-demand-2 .demand, c .in-Continue-demand-2 .up, c .in-Continue-demand-2 .end)) e; within = search needs }
+    record { value = same-told _ (c .reported-in-2 .ensures) ∙ up-led (c .args .spot) (c .args .s .now) l (c .in-2 .is) (Ok (c .in-Continue-demand-2 .demand, c .in-Continue-demand-2 .up, c .in-Continue-demand-2 .end)) e; within = search needs }
 
 pub returns-in-Continue-demand-3 : need.returns-in-Continue-demand-3
 returns-in-Continue-demand-3 c =
     let l : 0 < length (c .args .s .now) = search needs in
     let e = c .in-Continue-demand-3 .ensures tt .value in
-    record { value = down-led (c .args .spot) (c .args .s .now) l (c .in-3 .is) (Ok (c .in-Continue-demand-3 .demand, c .in-Continue-demand-3 .down, c .in-Continue-demand-3 .end)) e; within = search needs }
+    record { value = same-told _ (c .reported-in-3 .ensures) ∙ down-led (c .args .spot) (c .args .s .now) l (c .in-3 .is) (Ok (c .in-Continue-demand-3 .demand, c .in-Continue-demand-3 .down, c .in-Continue-demand-3 .end)) e; within = search needs }
 
 pub returns-in-Break-down : need.returns-in-Break-down
 returns-in-Break-down c =
@@ -74,7 +74,7 @@ returns-in-Continue-down c =
     let l : 0 < length (c .args .s .now) = search needs in
     let g : Demand × Price × ℕ = (c .in-Continue-demand-4 .demand, c .in-Continue-demand-4 .up, c .in-Continue-demand-4 .n) in
     let e = both-led (c .args .spot) (c .args .s .now) l (c .in-4 .is) (Ok g) (c .in-Continue-demand-4 .ensures tt .value) in
-    record { value = ap (second (c .args .spot) (c .args .s .now) l g) (c .in-Continue-down .ensures tt .value) ∙ e; within = search needs }
+    record { value = same-told _ (c .reported-in-4 .ensures) ∙ (ap (second (c .args .spot) (c .args .s .now) l g) (c .in-Continue-down .ensures tt .value) ∙ e); within = search needs }
 
 pub returns-in-rest-lead : need.returns-in-rest-lead
 returns-in-rest-lead c =

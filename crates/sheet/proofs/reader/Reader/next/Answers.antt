@@ -16,7 +16,7 @@ returns-in-Break-told c =
     let e = c .in-Break-told .ensures tt .value in
     rw (p .1, p .2) (record {
       answers = answers-so (standing (c .args .self .now)) l (Err (c .in-Break-told .field-0 .0)) e;
-      moves = moves-so (standing (c .args .self .now)) l (Err (c .in-Break-told .field-0 .0)) e
+      moves = moves-so (standing (c .args .self .now)) l (Err (c .in-Break-told .field-0 .0)) e;
     })
 
 pub returns : need.returns
@@ -26,5 +26,5 @@ returns c =
     let g = Ok (c .in-Continue-told .told, c .in-Continue-told .size) in
     record {
       answers = ap (λ v. Ok (Some v)) (c .record-of-record .ensures) ∙ answers-so (standing (c .args .self .now)) l g e;
-      moves = moves-so (standing (c .args .self .now)) l g e
+      moves = moves-so (standing (c .args .self .now)) l g e;
     }

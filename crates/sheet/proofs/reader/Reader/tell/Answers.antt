@@ -17,18 +17,18 @@ pub returns-in-Break-next : need.returns-in-Break-next
 returns-in-Break-next c =
     let p = err-from-errBy (c .from-residual .result) (c .from-residual .ensures .1) in
     let f = shown-fault (c .args .self .now .sheet .now) (c .args .self .now .at) (standing (c .loop-slots .self)) (c .loop-slots .slots) (c .loop-slots .inv)
-      (c .in-Break-next .field-0 .0) (c .in-Break-next .ensures tt .answers) in
+    (c .in-Break-next .field-0 .0) (c .in-Break-next .ensures tt .answers) in
     rw (p .1, p .2) (record { tells = f .tells; refuses = f .refuses })
 
 pub loop-slots-again : need.loop-slots-again
 loop-slots-again c =
     let n = c .in-Continue-next .ensures tt in
     shown-more (c .args .self .now .sheet .now) (c .args .self .now .at) (standing (c .loop-slots .self)) (c .loop-slots .slots) (c .loop-slots .inv)
-      (seen (c .in-Some .field-0)) (standing (c .next .last .self)) (sym (ap (λ o. shownOf (Ok o)) (c .in-Some .is)) ∙ n .answers) (n .moves)
+    (seen (c .in-Some .field-0)) (standing (c .next .last .self)) (sym (ap (λ o. shownOf (Ok o)) (c .in-Some .is)) ∙ n .answers) (n .moves)
 
 pub returns : need.returns
 returns c =
     let n = c .in-Continue-next .ensures tt in
     let f = shown-end (c .args .self .now .sheet .now) (c .args .self .now .at) (standing (c .loop-slots .self)) (c .loop-slots .slots) (c .loop-slots .inv)
-      (sym (ap (λ o. shownOf (Ok o)) (c .in-rest .is)) ∙ n .answers) in
+    (sym (ap (λ o. shownOf (Ok o)) (c .in-rest .is)) ∙ n .answers) in
     record { tells = f .tells; refuses = f .refuses }

@@ -11,4 +11,4 @@ ghost-result-2 c =
     let h = c .in-Ok .ensures tt in
     let t = c .tell-checked .ensures in
     of-head (c .args .bytes .now) (c .in-Ok .head) (standing (c .after .result)) (c .tell-checked .last .slots) (c .tell-checked .result)
-      (h .value) (h .within) (c .after .ensures) (t .tells) (t .refuses)
+    (h .value) (h .within) (c .after .ensures) (t .tells) (t .refuses)
