@@ -44,24 +44,24 @@ pub enum SheetFault {
 pub impl From<NumberFault> for RecordFault as RecordFaultFromNumber {
     ghost converts = { λ e r. r ≡ Number e };
 
-    fn from(fault: NumberFault) -> RecordFault {
-        RecordFault::Number(fault)
+    fn from(number: NumberFault) -> RecordFault {
+        RecordFault::Number(number)
     }
 }
 
 pub impl From<NumberFault> for SheetFault as SheetFaultFromNumber {
     ghost converts = { λ e r. r ≡ Head e };
 
-    fn from(fault: NumberFault) -> SheetFault {
-        SheetFault::Head(fault)
+    fn from(number: NumberFault) -> SheetFault {
+        SheetFault::Head(number)
     }
 }
 
 pub impl From<RecordFault> for SheetFault as SheetFaultFromRecord {
     ghost converts = { λ e r. r ≡ Slot e };
 
-    fn from(fault: RecordFault) -> SheetFault {
-        SheetFault::Slot(fault)
+    fn from(record: RecordFault) -> SheetFault {
+        SheetFault::Slot(record)
     }
 }
 
