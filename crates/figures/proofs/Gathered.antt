@@ -75,13 +75,13 @@ greater-greatest p q = (grind (arith, ints), grind (arith, ints))
 
 between-new : (p : Price) (s : Option Span) → Between (Some (widened p s)) (p .cents)
 between-new p None = (refl, omega (arith, ints), omega (arith, ints))
-between-new p (Some s) = (refl, lesser-least p (s .least) .0, greater-greatest p (s .greatest) .0)
+between-new p (Some s) = (refl, lesser-least p (s .lowest) .0, greater-greatest p (s .highest) .0)
 
 between-old : (p : Price) (s : Option Span) (z : ℤ) → Between s z → Between (Some (widened p s)) z
 between-old p None z b = absurd (let h = b .0 in let e : _≡_ {A = ℕ} 0 1 = cc in omega arith)
 between-old p (Some s) z b =
-    let l = lesser-least p (s .least) .1 in
-    let g = greater-greatest p (s .greatest) .1 in
+    let l = lesser-least p (s .lowest) .1 in
+    let g = greater-greatest p (s .highest) .1 in
     (refl, omega (arith, ints, b .1), omega (arith, ints, b .2))
 
 between-noted : (o : Option Price) (s : Option Span) (z : ℤ) → Between s z → Between (noted o s) z
@@ -129,16 +129,16 @@ more-sound most w v b x None f p h some s =
 more-sound most w v b x (Some o) f p h some s =
     let n = between-new p f in
     let k = s .2 refl in
-    let l = between-old p f (o .least .cents) (k .0) in
-    let g = between-old p f (o .greatest .cents) (k .1) in (
+    let l = between-old p f (o .lowest .cents) (k .0) in
+    let g = between-old p f (o .highest .cents) (k .1) in (
       omega arith,
       λ _. refl,
       λ _. (
-        either (ltZ (p .cents) (o .least .cents)) p (o .least) (λ q. Between (Some (widened p f)) (q .cents)) n l,
-        either (ltZ (o .greatest .cents) (p .cents)) p (o .greatest) (λ q. Between (Some (widened p f)) (q .cents)) n g,
+        either (ltZ (p .cents) (o .lowest .cents)) p (o .lowest) (λ q. Between (Some (widened p f)) (q .cents)) n l,
+        either (ltZ (o .highest .cents) (p .cents)) p (o .highest) (λ q. Between (Some (widened p f)) (q .cents)) n g,
       ),
-      above v b x (p .cents) (o .least .cents) (lesser p (o .least) .cents) (lesser-least p (o .least) .1) (lesser-least p (o .least) .0) (s .3),
-      under v b x (p .cents) (o .greatest .cents) (greater p (o .greatest) .cents) (greater-greatest p (o .greatest) .1) (greater-greatest p (o .greatest) .0) (s .4),
+      above v b x (p .cents) (o .lowest .cents) (lesser p (o .lowest) .cents) (lesser-least p (o .lowest) .1) (lesser-least p (o .lowest) .0) (s .3),
+      under v b x (p .cents) (o .highest .cents) (greater p (o .highest) .cents) (greater-greatest p (o .highest) .1) (greater-greatest p (o .highest) .0) (s .4),
     )
 
 -- one more slot, of the weight w

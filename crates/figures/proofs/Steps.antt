@@ -103,7 +103,7 @@ net-within m (suc k) h =
 
 low-within : (s : Option Span) → (natAbs (lowOf s) ≤ 9_999_900) × (natAbs (highOf s) ≤ 9_999_900)
 low-within None = (omega arith, omega arith)
-low-within (Some s) = (s .least .bounded, s .greatest .bounded)
+low-within (Some s) = (s .lowest .bounded, s .highest .bounded)
 
 scaled-within : (k v : ℕ) (z : ℤ) → natAbs z ≤ k → natAbs (z *ℤ pos v) ≤ k * v
 scaled-within k v (pos n) h = omega (arith, ints, mul-le-mul-right v h)

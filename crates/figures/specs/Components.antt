@@ -71,8 +71,8 @@ abbrev pub overManual : (Manual → Component) → Direction → Side → Compon
 overManual price d s = extreme d (price (s .scheduled)) (extreme d (price (s .«direct_up»)) (price (s .«direct_down»)))
 
 abbrev pub farthest : Direction → Span → Exact
-farthest Up p = whole (p .greatest)
-farthest Down p = whole (p .least)
+farthest Up p = whole (p .highest)
+farthest Down p = whole (p .lowest)
 
 -- the extreme of the counting cycle prices
 abbrev pub cyclesExtreme : Direction → Side → Component

@@ -15,8 +15,8 @@ greater p q = cond (ltZ (q .cents) (p .cents)) p q
 
 -- one price more
 abbrev pub widened : Price → Option Span → Span
-widened p None = record { least = p; greatest = p }
-widened p (Some s) = record { least = lesser p (s .least); greatest = greater p (s .greatest) }
+widened p None = record { lowest = p; highest = p }
+widened p (Some s) = record { lowest = lesser p (s .lowest); highest = greater p (s .highest) }
 
 -- one price more, where it is formed
 abbrev pub noted : Option Price → Option Span → Option Span
@@ -26,8 +26,8 @@ noted (Some p) s = Some (widened p s)
 -- cents of the least and of the greatest; 0 where there is none
 abbrev pub lowOf : Option Span → ℤ
 lowOf None = pos 0
-lowOf (Some s) = s .least .cents
+lowOf (Some s) = s .lowest .cents
 
 abbrev pub highOf : Option Span → ℤ
 highOf None = pos 0
-highOf (Some s) = s .greatest .cents
+highOf (Some s) = s .highest .cents

@@ -66,8 +66,8 @@ fn farthest_of(direction: Direction, span: Span) -> Ratio
     ensures { λ r. ⌜ exactOf r ≡ farthest direction span ⌝ }
 {
     match direction {
-        Direction::Up => Ratio::from(span.greatest),
-        Direction::Down => Ratio::from(span.least),
+        Direction::Up => Ratio::from(span.highest),
+        Direction::Down => Ratio::from(span.lowest),
     }
 }
 

@@ -9,7 +9,7 @@ pub struct Activation {
     pub price: Price,
 }
 
-/// The counting cycles: V, S, and the least and the greatest of their prices.
+/// The counting cycles: V, S, and the lowest and the highest of their prices.
 #[derive(Clone, Copy)]
 pub struct Totals {
     pub volume: u64,
@@ -24,7 +24,7 @@ pub struct Manual {
     pub price: Option<Price>,
 }
 
-/// The cycles and the manual slots, and the least and the greatest price formed in any slot.
+/// The cycles and the manual slots, and the lowest and the highest price formed in any slot.
 #[derive(Clone, Copy)]
 pub struct Side {
     pub cycles: Totals,

@@ -1,12 +1,12 @@
-// The least and the greatest of some prices.
+// The lowest and the highest of some prices.
 ghost use mathlib.Core.Path.{_≡_};
 ghost use Rattle.figures.specs.Spans.{lesser, greater, widened, noted};
 use units::price::Price;
 
 #[derive(Clone, Copy)]
 pub struct Span {
-    pub least: Price,
-    pub greatest: Price,
+    pub lowest: Price,
+    pub highest: Price,
 }
 
 fn lesser_of(p: Price, q: Price) -> Price
@@ -28,12 +28,12 @@ impl Span {
     {
         match span {
             None => Span {
-                least: price,
-                greatest: price,
+                lowest: price,
+                highest: price,
             },
             Some(wide) => Span {
-                least: lesser_of(price, wide.least),
-                greatest: greater_of(price, wide.greatest),
+                lowest: lesser_of(price, wide.lowest),
+                highest: greater_of(price, wide.highest),
             },
         }
     }

@@ -25,7 +25,9 @@ pub impl fmt::Display for Line as LineDisplay {
         let code = self.code;
         match self.answer {
             Ok(quote) => {
-                let euros = Amount { cents: quote.price.cents() };
+                let euros = Amount {
+                    cents: quote.price.cents(),
+                };
                 match quote.direction {
                     QuoteDirection::Up => write!(f, "{code} U {euros}\n"),
                     QuoteDirection::Down => write!(f, "{code} D {euros}\n"),
@@ -44,5 +46,8 @@ pub impl fmt::Display for Line as LineDisplay {
 pub fn line_of<R: Rulebook>(figures: &Figures, rulebook: &R) -> Line
     ensures { λ r. ⌜ lineText r ≡ outcomeText (R·Rulebook .code) (R·Rulebook .ruling (now (figures .entry))) (now (figures .entry) .avoided) ⌝ }
 {
-    Line { code: R::number(), answer: quote_figures(figures, rulebook) }
+    Line {
+        code: R::number(),
+        answer: quote_figures(figures, rulebook),
+    }
 }

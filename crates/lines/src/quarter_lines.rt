@@ -87,11 +87,26 @@ fn unreported(slot: UnreportedSlot) -> FiveLines
 {
     let answer = Err(QuoteFault::Unreported(slot));
     FiveLines {
-        weighted_average: Line { code: WeightedAverage::CODE, answer },
-        combined_automatic: Line { code: CombinedAutomatic::CODE, answer },
-        combined_all: Line { code: CombinedAll::CODE, answer },
-        max_min: Line { code: MaxMin::CODE, answer },
-        finnish: Line { code: Finnish::CODE, answer },
+        weighted_average: Line {
+            code: WeightedAverage::CODE,
+            answer,
+        },
+        combined_automatic: Line {
+            code: CombinedAutomatic::CODE,
+            answer,
+        },
+        combined_all: Line {
+            code: CombinedAll::CODE,
+            answer,
+        },
+        max_min: Line {
+            code: MaxMin::CODE,
+            answer,
+        },
+        finnish: Line {
+            code: Finnish::CODE,
+            answer,
+        },
     }
 }
 

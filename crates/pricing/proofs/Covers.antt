@@ -93,8 +93,8 @@ extreme-covers Down N g x D v h k =
 
 span-covers : (d : Direction) (r : Exact) (x : ℤ) (v : ℕ) (o : Option Span) → isSome o ≡ true → ((lowOf o *ℤ pos v) ≤ℤ x) → (x ≤ℤ (highOf o *ℤ pos v)) → Tops d (mapped (farthest d) o) r → Covers d r x v
 span-covers d r x v None e l h t = absurd (let z : _≡_ {A = ℕ} 0 1 = cc in omega arith)
-span-covers Up r x v (Some s) e l h t = extreme-covers Up (r .n) (s .greatest .cents) x (r .d) v t h
-span-covers Down r x v (Some s) e l h t = extreme-covers Down (r .n) (s .least .cents) x (r .d) v t l
+span-covers Up r x v (Some s) e l h t = extreme-covers Up (r .n) (s .highest .cents) x (r .d) v t h
+span-covers Down r x v (Some s) e l h t = extreme-covers Down (r .n) (s .lowest .cents) x (r .d) v t l
 
 zero-value : (o : Option Span) (x : ℤ) → ((lowOf o *ℤ pos 0) ≤ℤ x) → (x ≤ℤ (highOf o *ℤ pos 0)) → x ≡ pos 0
 zero-value o x l h = omega (arith, ints)

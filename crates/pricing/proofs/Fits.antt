@@ -120,8 +120,8 @@ counting-fits f m s = cond-both (ltb 0 (m .volume)) (formedPrice m) None (OnSome
 
 span-fits : (d : Direction) (f o : Option Span) → (isSome o ≡ true → Between f (lowOf o) × Between f (highOf o)) → OnSome (Within f) (mapped (farthest d) o)
 span-fits d f None h = tt
-span-fits Up f (Some p) h = whole-fits f (p .greatest) (h refl .1)
-span-fits Down f (Some p) h = whole-fits f (p .least) (h refl .0)
+span-fits Up f (Some p) h = whole-fits f (p .highest) (h refl .1)
+span-fits Down f (Some p) h = whole-fits f (p .lowest) (h refl .0)
 
 pub cycles-fit : (d : Direction) (s : Side) → Sound s → OnSome (Within (s .formed)) (cyclesExtreme d s)
 cycles-fit d s h = span-fits d (s .formed) (s .cycles .span) (h .0 .2)
