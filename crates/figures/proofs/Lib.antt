@@ -1,3 +1,4 @@
+pub mod Counted
 pub mod Facts
 pub mod Gathered
 pub mod Products

@@ -1,8 +1,10 @@
 -- Which slots count in a direction, with which volume and price.
 use mathlib.Core.Bool.{Bool, true, false}
-use Prim.Native.Nat.{ℕ, zero, suc, _*_}
+use mathlib.Core.Path.{_≡_}
+use Prim.Native.Nat.{ℕ, zero, suc, _*_, _≤_}
 use borrow.Author.Differences.{up, down}
 use lib.IntN.{ℤ, pos}
+use Rattle.std.specs.Options.{isSome}
 use Rattle.std.specs.declared.option.Option.{Option}
 use Rattle.std.specs.declared.option.Option.the-variants.{None, Some}
 use Rattle.source.specs.Slots.{formed}
@@ -46,3 +48,8 @@ countedOf d w (Reported r) = counted d w r
 abbrev pub formedOf : Direction → Slot → Option Price
 formedOf d Unreported = None
 formedOf d (Reported r) = formed d r
+
+-- a slot counts in a direction: its demand is in that direction, and its price is formed
+abbrev pub Counts : Direction → Slot → Type 0
+Counts d Unreported = ⊥
+Counts d (Reported r) = (1 ≤ demandIn d r) × (isSome (formed d r) ≡ true)

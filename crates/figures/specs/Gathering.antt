@@ -1,6 +1,6 @@
 -- Whether a source gives figures, and which.
 use mathlib.Core.Path.{_≡_}
-use Prim.Native.Nat.{ℕ, _<_}
+use Prim.Native.Nat.{ℕ, _<_, _≤_}
 use Rattle.std.specs.declared.result.Result.{Result}
 use Rattle.std.specs.declared.result.Result.the-variants.{Ok, Err}
 use Rattle.source.specs.Meanings.{Meaning}
@@ -8,6 +8,8 @@ use Rattle.source.specs.Products.{weight}
 use Rattle.source.specs.declared.direction.Direction.{Direction}
 use Rattle.source.specs.declared.slot.Slot.the-variants as slot
 use Rattle.std.specs.declared.option.Option.{Option}
+use Rattle.figures.specs.Components.{sideIn, volume}
+use Rattle.figures.specs.Counting.{Counts}
 use Rattle.figures.specs.Sides.{Given, ReportedTo, Slots}
 use Rattle.figures.specs.Tallies.{Tallied, manual}
 use Rattle.figures.specs.declared.fault.UnreportedSlot.{UnreportedSlot}
@@ -33,6 +35,15 @@ Gives m f = Given m (f .«local_net») (f .«zone_net») (f .avoided) (f .up) (f
 abbrev pub Figured : Meaning → Result Figures UnreportedSlot → Type 0
 Figured m (Ok f) = Gives m f
 Figured m (Err e) = FirstUnreported (m .slots) (e .slot)
+
+-- some slot of the quarter counts in a direction
+abbrev pub SomeCounts : Direction → Slots → Type 0
+SomeCounts d m = (k : ℕ) × (k < 228) × Counts d (m k)
+
+-- V is above 0 in a direction exactly where some slot counts in it
+abbrev pub CountsShown : Slots → Result Figures UnreportedSlot → Type 0
+CountsShown m (Ok f) = (d : Direction) → (1 ≤ volume (sideIn d f) → SomeCounts d m) × (SomeCounts d m → 1 ≤ volume (sideIn d f))
+CountsShown m (Err e) = Unit {0}
 
 -- one slot with its weight, or that it is not reported
 abbrev pub Weighs : Slots → ℕ → Result Weighed UnreportedSlot → Type 0

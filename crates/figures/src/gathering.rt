@@ -1,7 +1,7 @@
 // Reading a source once for the figures of its quarter.
 ghost use mathlib.Core.Path.{_≡_};
 ghost use Prim.Native.Nat.{_<_, _≤_};
-ghost use Rattle.figures.specs.Gathering.{Cycled, Figured, Weighs, sideFrom};
+ghost use Rattle.figures.specs.Gathering.{CountsShown, Cycled, Figured, Weighs, sideFrom};
 use crate::fault::UnreportedSlot;
 use crate::quarter_figures::Figures;
 use crate::side::Side;
@@ -76,7 +76,8 @@ impl ManualSlots {
 
 /// The figures of a quarter, each slot asked for once; refused where a slot is not reported.
 pub fn figures_of<S: PriceSource>(source: &S) -> Result<Figures, UnreportedSlot>
-    ensures { λ r. ⌜ Figured (S·PriceSource .means (now (source .entry))) r ⌝ }
+    ensures value { λ r. ⌜ Figured (S·PriceSource .means (now (source .entry))) r ⌝ }
+    ensures counting { λ r. ⌜ CountsShown (S·PriceSource .means (now (source .entry)) .slots) r ⌝ }
 {
     let tally = cycles(source)?;
     let scheduled = weighed(source, SCHEDULED)?;

@@ -18,6 +18,7 @@ use Rattle.figures.specs.Spans.{lowOf, highOf}
 use Rattle.figures.specs.declared.side.Manual.{Manual}
 use Rattle.figures.specs.declared.side.Side.{Side}
 use Rattle.figures.specs.declared.span.Span.{Span}
+use Rattle.figures.proofs.Counted.{by-part}
 use Rattle.figures.proofs.Sound.{Between, CyclesAre, ManualSound, Sound}
 use Rattle.source.specs.declared.direction.Direction.{Direction}
 use Rattle.source.specs.declared.direction.Direction.the-variants.{Up, Down}
@@ -75,17 +76,6 @@ cycles-formed s h k = h .0 .2 (h .0 .1 k) .0 .0
 
 manual-formed : (f : Option Span) (m : Manual) → ManualSound f m → 1 ≤ m .volume → isSome f ≡ true
 manual-formed f m s k = s .2 (s .1 k) .0
-
--- which part counts
-pub by-part : (P : Type 0) (s : Side) → 1 ≤ volume s → (1 ≤ s .cycles .volume → P) → (1 ≤ s .scheduled .volume → P) → (1 ≤ s .«direct_up» .volume → P) → (1 ≤ s .«direct_down» .volume → P) → P
-by-part P s k a b c d = parts (s .cycles .volume) (s .scheduled .volume) (s .«direct_up» .volume) (s .«direct_down» .volume) k a b c d
-  where
-    parts : (v w x y : ℕ) → 1 ≤ v + (w + (x + y)) → (1 ≤ v → P) → (1 ≤ w → P) → (1 ≤ x → P) → (1 ≤ y → P) → P
-    parts (suc v) w x y k a b c d = a (omega arith)
-    parts zero (suc w) x y k a b c d = b (omega arith)
-    parts zero zero (suc x) y k a b c d = c (omega arith)
-    parts zero zero zero (suc y) k a b c d = d (omega arith)
-    parts zero zero zero zero k a b c d = absurd (omega arith)
 
 pub volume-formed : (s : Side) → Sound s → 1 ≤ volume s → isSome (s .formed) ≡ true
 volume-formed s h k = by-part _ s k (cycles-formed s h) (manual-formed _ (s .scheduled) (h .1)) (manual-formed _ (s .«direct_up») (h .2)) (manual-formed _ (s .«direct_down») (h .3))

@@ -16,6 +16,7 @@ use Rattle.figures.specs.declared.quarter_figures.Figures.{Figures}
 use Rattle.figures.specs.declared.side.Manual.{Manual}
 use Rattle.figures.specs.declared.side.Side.{Side}
 use Rattle.figures.specs.declared.span.Span.{Span}
+use Rattle.figures.proofs.Counted.{by-part}
 use Rattle.figures.proofs.Facts.{sound-in}
 use Rattle.figures.proofs.Sound.{ManualSound, Sound}
 use Rattle.source.specs.declared.direction.Direction.{Direction}
@@ -26,7 +27,7 @@ use Rattle.pricing.specs.Laws.{Beyond, BeyondMean, Follows, FromFormed, Heeds,
 use Rattle.pricing.specs.Outcomes.{Outcome, avoided, decided, decidedIn, outcomeAt, priced, toward}
 use Rattle.pricing.specs.Rulings.{Pricing, automaticOrManual, extremeCounting, finnishPrice, meanOrManual, meanPrice}
 use Rattle.pricing.proofs.Covers.{Covers, covers-add, covers-cycles, covers-manual, covers-none, covers-quotient, no-value}
-use Rattle.pricing.proofs.Fits.{automatic-fits, by-part, counting-fits, cycles-fit, formed-fits, mean-fits, over-fits}
+use Rattle.pricing.proofs.Fits.{automatic-fits, counting-fits, cycles-fit, formed-fits, mean-fits, over-fits}
 use Rattle.pricing.proofs.Reach.{OnSome, Positive, Tops, extreme-first, extreme-keeps, extreme-second, extreme-tops, tops-parts, tops-self}
 
 -- a pricing exists where something counts, comes from formed prices, and is as extreme as the weighted mean

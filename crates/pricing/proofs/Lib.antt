@@ -1,3 +1,4 @@
+pub mod Bounding
 pub mod Covers
 pub mod Fits
 pub mod Lawful

@@ -10,6 +10,7 @@ use Rattle.figures.specs.declared.fault.UnreportedSlot.{UnreportedSlot}
 use Rattle.figures.specs.declared.quarter_figures.Figures.{Figures}
 use Rattle.source.specs.Meanings.{Meaning}
 use Rattle.units.specs.declared.price.Price.{Price}
+use Rattle.pricing.specs.Bounds.{QuoteBounded, SourceBounded}
 use Rattle.pricing.specs.Outcomes.{Outcome, avoided, priced}
 use Rattle.pricing.specs.Quotes.{Answer, Quoted, Quotes}
 use Rattle.pricing.specs.declared.fault.QuoteFault.the-variants.{NoAvoidedValue, Unreported}
@@ -23,3 +24,7 @@ pub from-figures : (m : Meaning) (code : ℕ) (ruling : Figures → Outcome) (f 
 from-figures m code ruling f (Err (Unreported e)) g h = absurd (never code (ruling f) (f .avoided) e h)
 from-figures m code ruling f (Err NoAvoidedValue) g h = record { figures = f; gives = g; quotes = subst (λ a. Quotes code (ruling f) a (Err NoAvoidedValue)) (g .saves) h }
 from-figures m code ruling f (Ok q) g h = record { figures = f; gives = g; quotes = subst (λ a. Quotes code (ruling f) a (Ok q)) (g .saves) h }
+
+pub from-bounds : (m : Meaning) (f : Figures) (r : Answer) → Gives m f → QuoteBounded f r → SourceBounded m r
+from-bounds m f (Ok q) g h = record { figures = f; gives = g; bounded = h }
+from-bounds m f (Err e) g h = tt

@@ -50,7 +50,7 @@ reach-false Up a b e = le-false _ _ e
 reach-false Down a b e = le-false _ _ e
 
 -- the order of fractions is one where no denominator is zero
-cross : (n m k : ℤ) (d e f : ℕ) → 1 ≤ e → (n *ℤ pos e) ≤ℤ (m *ℤ pos d) → (m *ℤ pos f) ≤ℤ (k *ℤ pos e) → (n *ℤ pos f) ≤ℤ (k *ℤ pos d)
+pub cross : (n m k : ℤ) (d e f : ℕ) → 1 ≤ e → (n *ℤ pos e) ≤ℤ (m *ℤ pos d) → (m *ℤ pos f) ≤ℤ (k *ℤ pos e) → (n *ℤ pos f) ≤ℤ (k *ℤ pos d)
 cross n m k d e f some h g =
     by-ltZ (k *ℤ pos d) (n *ℤ pos f)
     (λ l. absurd (omega (

@@ -1,5 +1,6 @@
 // The quote of a quarter under a rulebook.
 ghost use mathlib.Core.Path.{_≡_};
+ghost use Rattle.pricing.specs.Bounds.{KeepsLaws, QuoteBounded, SourceBounded};
 ghost use Rattle.pricing.specs.Quotes.{Quoted, Quotes, standing};
 use crate::fault::QuoteFault;
 use crate::fault::QuoteFaultFromSlot;
@@ -38,7 +39,9 @@ fn standing_of(direction: Direction) -> QuoteDirection
 
 /// The quote of figures that were worked out before.
 pub fn quote_figures<R: Rulebook>(figures: &Figures, rulebook: &R) -> Result<Quote, QuoteFault>
-    ensures { λ r. ⌜ Quotes (R·Rulebook .code) (R·Rulebook .ruling (now (figures .entry))) (now (figures .entry) .avoided) r ⌝ }
+    ensures value { λ r. ⌜ Quotes (R·Rulebook .code) (R·Rulebook .ruling (now (figures .entry))) (now (figures .entry) .avoided) r ⌝ }
+    ensures laws_kept { λ _. ⌜ KeepsLaws (R·Rulebook .net) (now (figures .entry)) (R·Rulebook .ruling (now (figures .entry))) ⌝ }
+    ensures bounds_kept { λ r. ⌜ QuoteBounded (now (figures .entry)) r ⌝ }
 {
     let code = R::number();
     match rulebook.decide(figures) {
@@ -65,7 +68,8 @@ pub fn quote_source<S: PriceSource, R: Rulebook>(
     source: &S,
     rulebook: &R,
 ) -> Result<Quote, QuoteFault>
-    ensures { λ r. ⌜ Quoted (S·PriceSource .means (now (source .entry))) (R·Rulebook .code) (R·Rulebook .ruling) r ⌝ }
+    ensures value { λ r. ⌜ Quoted (S·PriceSource .means (now (source .entry))) (R·Rulebook .code) (R·Rulebook .ruling) r ⌝ }
+    ensures bounds_kept { λ r. ⌜ SourceBounded (S·PriceSource .means (now (source .entry))) r ⌝ }
 {
     let figures = figures_of(source)?;
     quote_figures(&figures, rulebook)
