@@ -1,0 +1,7 @@
+// Worked quarters and damaged sheets, each written out as bytes and compared with its printed lines.
+#[cfg(test)]
+mod bytes;
+#[cfg(test)]
+mod quarters;
+#[cfg(test)]
+mod refusals;
