@@ -36,7 +36,7 @@ impl QuoteFault {
 pub impl From<UnreportedSlot> for QuoteFault as QuoteFaultFromSlot {
     ghost converts = { λ e r. r ≡ Unreported e };
 
-    fn from(fault: UnreportedSlot) -> QuoteFault {
-        QuoteFault::Unreported(fault)
+    fn from(slot: UnreportedSlot) -> QuoteFault {
+        QuoteFault::Unreported(slot)
     }
 }

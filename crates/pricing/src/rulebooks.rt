@@ -202,10 +202,10 @@ pub impl Rulebook for Finnish as FinnishRulebook {
                 ruled(direction, figures.weighted_mean(direction))
             }
             Some(direction) => {
-                let manual = figures.formed_manual(direction);
+                let formed = figures.formed_manual(direction);
                 ruled(
                     direction,
-                    extreme_of(direction, figures.automatic_mean(direction), manual),
+                    extreme_of(direction, figures.automatic_mean(direction), formed),
                 )
             }
             None => Ruling::Avoided,

@@ -4,7 +4,7 @@ use lines::quarter_lines::lines_of;
 use std::alloc::AllocError;
 use std::alloc::Global;
 
-pub fn put_number(out: &mut Vec<u8>, n: i32) -> Result<(), AllocError> {
+pub(crate) fn put_number(out: &mut Vec<u8>, n: i32) -> Result<(), AllocError> {
     let wide = n as i64;
     let mut rest = if wide < 0 {
         2 * wide.unsigned_abs() - 1
@@ -23,7 +23,11 @@ pub fn put_number(out: &mut Vec<u8>, n: i32) -> Result<(), AllocError> {
 }
 
 /// The opening, the zone net and the avoided value.
-pub fn head(heap: Global, zone_net: i32, avoided: Option<i32>) -> Result<Vec<u8>, AllocError> {
+pub(crate) fn head(
+    heap: Global,
+    zone_net: i32,
+    avoided: Option<i32>,
+) -> Result<Vec<u8>, AllocError> {
     let mut out = Vec::from_slice(heap, b"ISP1")?;
     put_number(&mut out, zone_net)?;
     match avoided {
@@ -37,7 +41,7 @@ pub fn head(heap: Global, zone_net: i32, avoided: Option<i32>) -> Result<Vec<u8>
 }
 
 /// So many slots with one demand and no price.
-pub fn idle(out: &mut Vec<u8>, slots: usize) -> Result<(), AllocError> {
+pub(crate) fn idle(out: &mut Vec<u8>, slots: usize) -> Result<(), AllocError> {
     for _ in 0..slots {
         out.push(1)?;
         out.push(0)?;
@@ -46,7 +50,12 @@ pub fn idle(out: &mut Vec<u8>, slots: usize) -> Result<(), AllocError> {
 }
 
 /// So many slots with one demand and one up price.
-pub fn up(out: &mut Vec<u8>, slots: usize, demand: i32, cents: i32) -> Result<(), AllocError> {
+pub(crate) fn up(
+    out: &mut Vec<u8>,
+    slots: usize,
+    demand: i32,
+    cents: i32,
+) -> Result<(), AllocError> {
     for _ in 0..slots {
         out.push(2)?;
         put_number(out, demand)?;
@@ -56,7 +65,12 @@ pub fn up(out: &mut Vec<u8>, slots: usize, demand: i32, cents: i32) -> Result<()
 }
 
 /// So many slots with one demand and one down price.
-pub fn down(out: &mut Vec<u8>, slots: usize, demand: i32, cents: i32) -> Result<(), AllocError> {
+pub(crate) fn down(
+    out: &mut Vec<u8>,
+    slots: usize,
+    demand: i32,
+    cents: i32,
+) -> Result<(), AllocError> {
     for _ in 0..slots {
         out.push(3)?;
         put_number(out, demand)?;
@@ -66,7 +80,7 @@ pub fn down(out: &mut Vec<u8>, slots: usize, demand: i32, cents: i32) -> Result<
 }
 
 /// What the program prints of the sheet.
-pub fn printed(heap: Global, sheet: &Vec<u8>) -> Result<String, AllocError> {
+pub(crate) fn printed(heap: Global, sheet: &Vec<u8>) -> Result<String, AllocError> {
     let lines = lines_of(sheet.as_slice());
     format!(heap, "{lines}")
 }

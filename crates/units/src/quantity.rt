@@ -79,6 +79,6 @@ impl ZoneNet {
     pub fn kw(self) -> i64
         ensures { λ r. ⌜ r ≡ self .kw ⌝ }
     {
-        self.kw as i64
+        i64::from(self.kw)
     }
 }
