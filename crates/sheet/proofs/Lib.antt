@@ -1,4 +1,6 @@
+pub mod Firsts
 pub mod Leads
+pub mod Places
 pub mod Quantities
 pub mod Standings
 pub mod Telling

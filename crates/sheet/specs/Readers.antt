@@ -33,17 +33,14 @@ seen (rec.Up body place) = record { lead = 2; body = body .now; place = place }
 seen (rec.Down body place) = record { lead = 3; body = body .now; place = place }
 seen (rec.Both body place) = record { lead = 4; body = body .now; place = place }
 
+-- the lead byte of a demand, by the prices with it
 abbrev pub byPrices : {X : Type 0} → Option X → Option X → ℕ
 byPrices None None = 1
 byPrices (Some u) None = 2
 byPrices None (Some v) = 3
 byPrices (Some u) (Some v) = 4
 
--- the lead byte of what is told
-abbrev pub leadOf : Slot → ℕ
-leadOf Unreported = 0
-leadOf (Reported r) = byPrices (r .up) (r .down)
-
+-- the record of what is told, by the prices formed
 abbrev pub viewOf : Slot → List ℕ → ℕ → View
 viewOf Unreported body place = record { lead = 0; body = []; place = place }
 viewOf (Reported r) body place = record { lead = byPrices (r .up) (r .down); body = body; place = place }
