@@ -62,9 +62,12 @@ pub record Lies (slot end number : ℕ) (p : Spot) : Type 0 where
   pub inside : (number ≡ 1 → ⊥) → p .place < end
 
 -- what is read of the bytes s at p ends within them
+abbrev pub Fits : {X : Type 0} → (X → ℕ) → Spot → List ℕ → Result X NumberFault → Type 0
+Fits end p s (Ok x) = end x ≤ length s
+Fits end p s (Err f) = Lies (p .slot) (p .place + length s) (numberNumber f) (numberSpot f)
+
 abbrev pub Fits-number : {Q : Type 0} → Spot → List ℕ → Number Q → Type 0
-Fits-number p s (Ok g) = g .1 ≤ length s
-Fits-number p s (Err f) = Lies (p .slot) (p .place + length s) (numberNumber f) (numberSpot f)
+Fits-number p s x = Fits (λ g. g .1) p s x
 
 before : (p : Spot) (s : List ℕ) (from number : ℕ) → from < length s → (number ≡ 1 → ⊥) → Lies (p .slot) (p .place + length s) number (ahead p from)
 before p s from number h n = record { in-slot = refl; at-end = λ e. absurd (n e); inside = λ _. omega arith }
@@ -83,8 +86,7 @@ unfolding quantity
 quantity-fits made p s from h = judged-fits made p s from (groups (drop from s)) h (groups-long (drop from s))
 
 abbrev Fits-pair : Spot → List ℕ → Pair → Type 0
-Fits-pair p s (Ok g) = g .2 ≤ length s
-Fits-pair p s (Err f) = Lies (p .slot) (p .place + length s) (numberNumber f) (numberSpot f)
+Fits-pair p s x = Fits (λ g. g .2) p s x
 
 price-fits : (p : Spot) (s : List ℕ) (d : Demand) (x : Number Price) → Fits-number p s x → Fits-pair p s (priceTo d x)
 price-fits p s d (Ok g) h = h
@@ -107,15 +109,10 @@ Fits-told p len (Err f) = Lies (p .slot) (p .place + len) (recordNumber f) (reco
 carried : (p : Spot) (n : ℕ) (number : ℕ) (x : Spot) → Lies (p .slot) (ahead p 1 .place + n) number x → Lies (p .slot) (p .place + suc n) number x
 carried p n number x h = subst (λ e. Lies (p .slot) e number x) (omega arith) h
 
-number-told : {Q : Type 0} (p : Spot) (s : List ℕ) (x : Number Q) (f : Q × ℕ → Told) → Fits-number (ahead p 1) s x
-    → ((g : Q × ℕ) → g .1 ≤ length s → Fits-told p (suc (length s)) (f g)) → Fits-told p (suc (length s)) (onward x f)
-number-told p s (Ok g) f h k = k g h
-number-told p s (Err e) f h k = carried p (length s) (numberNumber e) (numberSpot e) h
-
-pair-told : (p : Spot) (s : List ℕ) (x : Pair) (f : Demand × Price × ℕ → Told) → Fits-pair (ahead p 1) s x
-    → ((g : Demand × Price × ℕ) → g .2 ≤ length s → Fits-told p (suc (length s)) (f g)) → Fits-told p (suc (length s)) (onward x f)
-pair-told p s (Ok g) f h k = k g h
-pair-told p s (Err e) f h k = carried p (length s) (numberNumber e) (numberSpot e) h
+onward-told : {X : Type 0} (end : X → ℕ) (p : Spot) (s : List ℕ) (x : Result X NumberFault) (f : X → Told) → Fits end (ahead p 1) s x
+    → ((g : X) → end g ≤ length s → Fits-told p (suc (length s)) (f g)) → Fits-told p (suc (length s)) (onward x f)
+onward-told end p s (Ok g) f h k = k g h
+onward-told end p s (Err e) f h k = carried p (length s) (numberNumber e) (numberSpot e) h
 
 lead-fits : (p : Spot) (lead : ℕ) (s : List ℕ) → Fits-told p (suc (length s)) (byLead p (ahead p 1) lead s)
 unfolding byLead
@@ -123,11 +120,11 @@ lead-fits p lead s =
     let P : Told → Type 0 = Fits-told p (suc (length s)) in
     let q : Spot = ahead p 1 in
     either P (eqb lead 0) _ _ (omega arith, omega arith)
-    (either P (eqb lead 1) _ _ (number-told p s (quantity demandOf q s 0) (λ g. reported (g .0) None None (g .1)) (quantity-fits demandOf q s 0 (omega arith)) (λ g h. (omega arith, omega arith)))
-    (either P (eqb lead 2) _ _ (pair-told p s (pair q s) (λ g. reported (g .0) (Some (g .1)) None (g .2)) (pair-fits q s) (λ g h. (omega arith, omega arith)))
-    (either P (eqb lead 3) _ _ (pair-told p s (pair q s) (λ g. reported (g .0) None (Some (g .1)) (g .2)) (pair-fits q s) (λ g h. (omega arith, omega arith)))
-    (either P (eqb lead 4) _ _ (pair-told p s (pair q s) (λ g. onward (quantity priceOf q s (g .2)) (λ h. reported (g .0) (Some (g .1)) (Some (h .0)) (h .1))) (pair-fits q s)
-    (λ g h. number-told p s (quantity priceOf q s (g .2)) (λ h. reported (g .0) (Some (g .1)) (Some (h .0)) (h .1)) (quantity-fits priceOf q s (g .2) h) (λ k l. (omega arith, omega arith))))
+    (either P (eqb lead 1) _ _ (onward-told (λ g. g .1) p s (quantity demandOf q s 0) (λ g. reported (g .0) None None (g .1)) (quantity-fits demandOf q s 0 (omega arith)) (λ g h. (omega arith, omega arith)))
+    (either P (eqb lead 2) _ _ (onward-told (λ g. g .2) p s (pair q s) (λ g. reported (g .0) (Some (g .1)) None (g .2)) (pair-fits q s) (λ g h. (omega arith, omega arith)))
+    (either P (eqb lead 3) _ _ (onward-told (λ g. g .2) p s (pair q s) (λ g. reported (g .0) None (Some (g .1)) (g .2)) (pair-fits q s) (λ g h. (omega arith, omega arith)))
+    (either P (eqb lead 4) _ _ (onward-told (λ g. g .2) p s (pair q s) (λ g. onward (quantity priceOf q s (g .2)) (λ h. reported (g .0) (Some (g .1)) (Some (h .0)) (h .1))) (pair-fits q s)
+    (λ g h. onward-told (λ g. g .1) p s (quantity priceOf q s (g .2)) (λ h. reported (g .0) (Some (g .1)) (Some (h .0)) (h .1)) (quantity-fits priceOf q s (g .2) h) (λ k l. (omega arith, omega arith))))
     (record { in-slot = refl; at-end = λ e. absurd (omega arith); inside = λ _. omega arith })))))
 
 pub told-fits : (p : Spot) (s : List ℕ) → Fits-told p (length s) (slotTold p s)
