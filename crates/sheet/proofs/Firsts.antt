@@ -1,16 +1,14 @@
 -- The first fault of a sheet: its place, and the slots from it on.
 use mathlib.Core.Bool.{Bool, true, false, cond}
-use mathlib.Core.List.{List, [], _∷_, _++_}
-use mathlib.Core.Logic.{_⊎_, inl, inr}
-use mathlib.Core.Path.{_≡_, refl, ap, sym, _∙_, subst}
+use mathlib.Core.List.{List, [], _∷_}
+use mathlib.Core.Logic.{inl, inr}
+use mathlib.Core.Path.{_≡_, refl, ap, _∙_, subst}
 use Prim.Native.Nat.{ℕ, zero, suc, _+_, _-_, _<_, _≤_}
 use native.Mathlib.Omega.{arith}
 use lib.Dec.{eqb, ltb}
 use lib.ListN.{length, drop, getD, replicate, length-drop, length-replicate}
 use Rattle.std.proofs.shelf.Lists.{getD-replicate, getD-past}
 use Rattle.std.proofs.shelf.Ways.{tells, leb-tells}
-use Rattle.std.specs.declared.option.Option.{Option}
-use Rattle.std.specs.declared.option.Option.the-variants.{Some, None}
 use Rattle.std.specs.declared.result.Result.{Result}
 use Rattle.std.specs.declared.result.Result.the-variants.{Ok, Err}
 use Rattle.units.specs.declared.price.Price.{Price}
@@ -27,8 +25,8 @@ use Rattle.sheet.specs.Heads.{headOf, opens, opening, front, Avoided, avoidedA
 use Rattle.sheet.specs.Laws.{Placed, Silent}
 use Rattle.sheet.specs.Numbers.{Number, quantity}
 use Rattle.sheet.specs.Records.{Told, slotTold}
-use Rattle.sheet.specs.Rows.{row, Row, step, prefixed, spotAt}
-use Rattle.sheet.specs.Sheets.{closes, closed, slotsFrom, slotsAfter, faultAfter, sheetSlots, firstFault}
+use Rattle.sheet.specs.Rows.{row, Row, step, spotAt}
+use Rattle.sheet.specs.Sheets.{closed, slotsFrom, slotsAfter, faultAfter, sheetSlots, firstFault}
 use Rattle.sheet.proofs.Places.{either, Lies, Fits-number, quantity-fits, Fits-told, told-fits}
 
 none-told : (n k : ℕ) → getD (replicate n Unreported) k Unreported ≡ Unreported

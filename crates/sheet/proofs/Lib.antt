@@ -4,4 +4,5 @@ pub mod Places
 pub mod Quantities
 pub mod Standings
 pub mod Telling
+pub mod Views
 pub mod Wholes

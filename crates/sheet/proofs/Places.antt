@@ -1,7 +1,7 @@
 -- Where a fault stands: at the sheet's end, or at a byte before it, and in which slot.
 use mathlib.Core.Bool.{Bool, true, false, cond}
 use mathlib.Core.List.{List, [], _∷_}
-use mathlib.Core.Path.{_≡_, refl, ap, sym, _∙_, subst}
+use mathlib.Core.Path.{_≡_, refl, subst}
 use Prim.Native.Nat.{ℕ, suc, _+_, _-_, _*_, _<_, _≤_}
 use native.Mathlib.Omega.{arith}
 use lib.Dec.{eqb, ltb}
@@ -14,11 +14,7 @@ use Rattle.units.specs.declared.bounds.OutOfBounds.{OutOfBounds}
 use Rattle.units.specs.declared.demand.Demand.{Demand}
 use Rattle.units.specs.declared.price.Price.{Price}
 use Rattle.units.specs.Quantities.{demandOf, priceOf}
-use Rattle.source.specs.declared.slot.Slot.the-variants.{Unreported}
 use Rattle.sheet.specs.declared.fault.NumberFault.{NumberFault}
-use Rattle.sheet.specs.declared.fault.NumberFault.the-variants as nf
-use Rattle.sheet.specs.declared.fault.RecordFault.{RecordFault}
-use Rattle.sheet.specs.declared.fault.RecordFault.the-variants as rf
 use Rattle.sheet.specs.declared.fault.Spot.{Spot}
 use Rattle.sheet.specs.declared.number.GroupsFault.the-variants as gf
 use Rattle.sheet.specs.Faults.{numberNumber, numberSpot, recordNumber, recordSpot}

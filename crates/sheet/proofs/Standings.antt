@@ -22,6 +22,10 @@ pub found-is : (x : Standing) (t : Told) → t ≡ slotTold (spotAt (x .at) (x .
 unfolding found
 found-is x t e = sym (e ∙ ap (slotTold (spotAt (x .at) (x .slot))) (between-to-end (x .bytes) (x .at) (length (x .bytes)) (omega arith)))
 
+pub found-opens : (x : Standing) (t : Told) → found x ≡ t → slotTold (spotAt (x .at) (x .slot)) (drop (x .at) (x .bytes)) ≡ t
+unfolding found
+found-opens x t e = e
+
 pub answer-below : (x : Standing) (t : Told) → x .slot < 228 → found x ≡ t → answer x ≡ recordShown x t
 answer-below x t h e = ap (λ b. cond b (recordShown x (found x)) (endShown (closes (x .bytes) (x .at)))) (below (x .slot) h) ∙ ap (recordShown x) e
 

@@ -1,7 +1,6 @@
 -- The slots that a reader has told so far, and what they are when it ends.
-use mathlib.Core.Bool.{Bool, true, false, cond}
+use mathlib.Core.Bool.{Bool, true, false}
 use mathlib.Core.List.{List, [], _∷_, _++_, append-assoc, append-nil}
-use mathlib.Core.Logic.{_⊎_, inl, inr}
 use mathlib.Core.Path.{_≡_, refl, ap, sym, _∙_, subst}
 use Prim.Native.Nat.{ℕ, suc, _+_, _-_, _<_, _≤_}
 use native.Mathlib.Omega.{arith}
@@ -20,7 +19,7 @@ use Rattle.sheet.specs.declared.fault.SheetFault.{SheetFault}
 use Rattle.sheet.specs.declared.fault.SheetFault.the-variants as sf
 use Rattle.sheet.specs.Records.{slotTold, Told}
 use Rattle.sheet.specs.Rows.{row, Row, step, prefixed, spotAt}
-use Rattle.sheet.specs.Readers.{Standing, View, Shown, found, answer, after, recordShown, moved, endShown}
+use Rattle.sheet.specs.Readers.{Standing, View, Shown, found, answer, after, moved, endShown}
 use Rattle.sheet.specs.Sheets.{closes, closed, slotsFrom}
 use Rattle.sheet.proofs.Standings.{answer-below, answer-past, after-below}
 

@@ -1,4 +1,3 @@
-use borrow.Author.Needs.{needs}
 use Rattle.sheet.specs.Readers.{standing}
 use Rattle.sheet.proofs.Wholes.{of-fault, of-head}
 use Rattle.sheet.proofs.sheet.Sheet.read.Needs as need
