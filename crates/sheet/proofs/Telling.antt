@@ -1,7 +1,6 @@
 -- The slots that a reader has told so far, and what they are when it ends.
-use mathlib.Core.Bool.{Bool, true, false, cond}
+use mathlib.Core.Bool.{Bool, true, false}
 use mathlib.Core.List.{List, [], _∷_, _++_, append-assoc, append-nil}
-use mathlib.Core.Logic.{_⊎_, inl, inr}
 use mathlib.Core.Path.{_≡_, refl, ap, sym, _∙_, subst}
 use Prim.Native.Nat.{ℕ, suc, _+_, _-_, _<_, _≤_}
 use native.Mathlib.Omega.{arith}
@@ -20,8 +19,9 @@ use Rattle.sheet.specs.declared.fault.SheetFault.{SheetFault}
 use Rattle.sheet.specs.declared.fault.SheetFault.the-variants as sf
 use Rattle.sheet.specs.Records.{slotTold, Told}
 use Rattle.sheet.specs.Rows.{row, Row, step, prefixed, spotAt}
-use Rattle.sheet.specs.Readers.{Standing, View, Shown, found, answer, after, recordShown, moved, endShown}
+use Rattle.sheet.specs.Readers.{Standing, View, Shown, found, answer, after, moved, endShown}
 use Rattle.sheet.specs.Sheets.{closes, closed, slotsFrom}
+use Rattle.sheet.proofs.Standings.{answer-below, answer-past, after-below}
 
 -- the slots before the standing are told in out, and from it on they are unreported
 pub record Sofar (s : List ℕ) (start : ℕ) (x : Standing) (out : List Slot) : Type 0 where
@@ -74,21 +74,6 @@ by-slot x false e = past (grind (arith, tells))
 
 cases : (x : Standing) → Case x
 cases x = by-slot x (ltb (x .slot) 228) refl
-
-below : (i : ℕ) → i < 228 → ltb i 228 ≡ true
-below i h = grind (arith, tells)
-
-above : (i : ℕ) → 228 ≤ i → ltb i 228 ≡ false
-above i h = grind (arith, tells)
-
-answer-below : (x : Standing) (t : Told) → x .slot < 228 → found x ≡ t → answer x ≡ recordShown x t
-answer-below x t h e = ap (λ b. cond b (recordShown x (found x)) (endShown (closes (x .bytes) (x .at)))) (below (x .slot) h) ∙ ap (recordShown x) e
-
-answer-past : (x : Standing) → 228 ≤ x .slot → answer x ≡ endShown (closes (x .bytes) (x .at))
-answer-past x h = ap (λ b. cond b (recordShown x (found x)) (endShown (closes (x .bytes) (x .at)))) (above (x .slot) h)
-
-after-below : (x : Standing) (t : Told) → x .slot < 228 → found x ≡ t → after x ≡ moved x t
-after-below x t h e = ap (λ b. cond b (moved x (found x)) x) (below (x .slot) h) ∙ ap (moved x) e
 
 -- what is shown is one of a record, the end and a fault
 not-fault : (v : View) (z : SheetFault) → _≡_ {A = Shown} (Ok (Some v)) (Err z) → ⊥

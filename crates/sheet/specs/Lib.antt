@@ -1,6 +1,7 @@
 pub mod Faults
 pub mod Groups
 pub mod Heads
+pub mod Laws
 pub mod Numbers
 pub mod Readers
 pub mod Records

@@ -3,7 +3,7 @@ use mathlib.Core.Bool.{cond}
 use mathlib.Core.List.{List, []}
 use Prim.Native.Nat.{ℕ, _+_, _-_, min}
 use lib.Dec.{ltb}
-use lib.ListN.{length, take, drop}
+use lib.ListN.{length, drop, getD}
 use Rattle.std.specs.Holes.{between}
 use Rattle.std.specs.declared.option.Option.{Option}
 use Rattle.std.specs.declared.option.Option.the-variants.{Some, None}
@@ -33,20 +33,21 @@ seen (rec.Up body place) = record { lead = 2; body = body .now; place = place }
 seen (rec.Down body place) = record { lead = 3; body = body .now; place = place }
 seen (rec.Both body place) = record { lead = 4; body = body .now; place = place }
 
+-- the lead byte of a demand, by the prices with it
 abbrev pub byPrices : {X : Type 0} → Option X → Option X → ℕ
 byPrices None None = 1
 byPrices (Some u) None = 2
 byPrices None (Some v) = 3
 byPrices (Some u) (Some v) = 4
 
--- the lead byte of what is told
-abbrev pub leadOf : Slot → ℕ
-leadOf Unreported = 0
-leadOf (Reported r) = byPrices (r .up) (r .down)
-
+-- the record of what is told, by the prices formed
 abbrev pub viewOf : Slot → List ℕ → ℕ → View
 viewOf Unreported body place = record { lead = 0; body = []; place = place }
 viewOf (Reported r) body place = record { lead = byPrices (r .up) (r .down); body = body; place = place }
+
+-- the record of n bytes at the place at of the sheet s
+abbrev pub viewAt : List ℕ → ℕ → ℕ → View
+viewAt s at n = record { lead = getD s at 0; body = between (at + 1) (at + n) s; place = at + 1 }
 
 -- where a reader stands: the next slot, the place of its record, and what the last one told
 pub record Standing : Type 0 where
@@ -70,7 +71,7 @@ abbrev pub Shown : Type 0
 Shown = Result (Option View) SheetFault
 
 abbrev pub recordShown : Standing → Told → Shown
-recordShown x (Ok g) = Ok (Some (viewOf (g .0) (between (x .at + 1) (x .at + g .1) (x .bytes)) (x .at + 1)))
+recordShown x (Ok g) = Ok (Some (viewAt (x .bytes) (x .at) (g .1)))
 recordShown x (Err f) = Err (sf.Slot f)
 
 abbrev pub endShown : Result (Unit {0}) SheetFault → Shown

@@ -24,7 +24,7 @@ pub struct Head {
 
 // Byte by byte, so that the first wrong or missing one is found.
 fn check_opening(sheet: &[u8]) -> Result<(), SheetFault>
-    ensures value { λ r. ⌜ r ≡ opens 0 opening (now (sheet .entry)) ⌝ }
+    ensures checks { λ r. ⌜ r ≡ opens 0 opening (now (sheet .entry)) ⌝ }
     ensures long { λ r. ⌜ onOk r (λ _. 4 ≤ length (now (sheet .entry))) ⌝ }
 {
     match sheet {
@@ -41,7 +41,7 @@ fn check_opening(sheet: &[u8]) -> Result<(), SheetFault>
 
 // The avoided value by the flag at `at`, and the place after it.
 fn read_avoided(sheet: &[u8], at: usize) -> Result<(Option<Price>, usize), SheetFault>
-    ensures value { λ r. ⌜ r ≡ avoidedAt (now (sheet .entry)) at ⌝ }
+    ensures reads { λ r. ⌜ r ≡ avoidedAt (now (sheet .entry)) at ⌝ }
     ensures within { λ r. ⌜ onOk r (λ p. p .1 ≤ length (now (sheet .entry))) ⌝ }
 {
     if at >= sheet.len() {
@@ -67,7 +67,7 @@ fn read_avoided(sheet: &[u8], at: usize) -> Result<(Option<Price>, usize), Sheet
 impl Head {
     /// The head of a sheet, or the first fault in it.
     pub fn read(sheet: &[u8]) -> Result<Head, SheetFault>
-        ensures value { λ r. ⌜ r ≡ headOf (now (sheet .entry)) ⌝ }
+        ensures reads { λ r. ⌜ r ≡ headOf (now (sheet .entry)) ⌝ }
         ensures within { λ r. ⌜ onOk r (λ h. h .end ≤ length (now (sheet .entry))) ⌝ }
     {
         check_opening(sheet)?;

@@ -17,7 +17,7 @@ pub(crate) enum GroupsFault {
 
 // The groups at the front of the bytes, joined, and how many bytes they take.
 fn read_groups(s: &[u8]) -> Result<(u32, usize), GroupsFault>
-    ensures value { λ r. ⌜ r ≡ groups (now (s .entry)) ⌝ }
+    ensures reads { λ r. ⌜ r ≡ groups (now (s .entry)) ⌝ }
     ensures fits { λ r. ⌜ onOk r (λ p. (p .0 < 2 ^ 28) × (p .1 ≤ length (now (s .entry)))) ⌝ }
 {
     match s {
@@ -60,7 +60,7 @@ pub(crate) fn read_quantity<Q: Quantity>(
     start: Spot,
 ) -> Result<(Q, usize), NumberFault>
     requires { ⌜ from ≤ length (now s) ⌝ ∗ ⌜ start .place + length (now s) < 2 ^ 64 ⌝ }
-    ensures value { λ r. ⌜ r ≡ quantity (Q·Quantity .made) start (now (s .entry)) from ⌝ }
+    ensures reads { λ r. ⌜ r ≡ quantity (Q·Quantity .made) start (now (s .entry)) from ⌝ }
     ensures within { λ r. ⌜ onOk r (λ p. p .1 ≤ length (now (s .entry))) ⌝ }
 {
     let spot = Spot {

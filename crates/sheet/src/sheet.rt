@@ -1,6 +1,8 @@
 // A packed sheet as a price source.
 ghost use mathlib.Core.Path.{_≡_};
 ghost use denote.Ref.{now};
+ghost use Rattle.std.specs.declared.result.Result.the-variants.{Err};
+ghost use Rattle.sheet.specs.Laws.{Placed, Silent};
 ghost use Rattle.sheet.specs.Sheets.{sheetSlots, sheetNet, sheetAvoided, firstFault, sheetMeaning};
 use crate::fault::SheetFault;
 use crate::head::Head;
@@ -56,7 +58,9 @@ impl<'a> Sheet<'a> {
 
     /// The first fault from the front of the sheet, or that there is none.
     pub fn check(&self) -> Result<(), SheetFault>
-        ensures { λ r. ⌜ r ≡ firstFault (now (now (self .entry) .bytes)) ⌝ }
+        ensures first { λ r. ⌜ r ≡ firstFault (now (now (self .entry) .bytes)) ⌝ }
+        ensures placed { λ r. ⌜ ((f : SheetFault) → r ≡ Err f → Placed (now (now (self .entry) .bytes)) f) ⌝ }
+        ensures silent { λ r. ⌜ ((f : SheetFault) → r ≡ Err f → Silent (now (now (self .entry) .bytes)) f) ⌝ }
     {
         self.checked
     }

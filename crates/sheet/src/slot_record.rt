@@ -45,7 +45,7 @@ pub(crate) fn record_of<'a>(slot: Slot, body: &'a [u8], place: usize) -> Record<
 // A demand and the price after it, and where they end.
 fn read_pair(s: &[u8], start: Spot) -> Result<(Demand, Price, usize), NumberFault>
     requires { ⌜ start .place + length (now s) < 2 ^ 64 ⌝ }
-    ensures value { λ r. ⌜ r ≡ pair start (now (s .entry)) ⌝ }
+    ensures reads { λ r. ⌜ r ≡ pair start (now (s .entry)) ⌝ }
     ensures within { λ r. ⌜ onOk r (λ p. p .2 ≤ length (now (s .entry))) ⌝ }
 {
     let (demand, n) = read_quantity(s, 0, start)?;
@@ -62,7 +62,7 @@ fn reported(demand: Demand, up: Option<Price>, down: Option<Price>) -> Slot
 // What the record at the front of `s` tells, and how many bytes it has; `s` begins at `spot`.
 pub(crate) fn read_slot(s: &[u8], spot: Spot) -> Result<(Slot, usize), RecordFault>
     requires { ⌜ spot .place + length (now s) < 2 ^ 64 ⌝ }
-    ensures value { λ r. ⌜ r ≡ slotTold spot (now (s .entry)) ⌝ }
+    ensures reads { λ r. ⌜ r ≡ slotTold spot (now (s .entry)) ⌝ }
     ensures within { λ r. ⌜ onOk r (λ p. (1 ≤ p .1) × (p .1 ≤ length (now (s .entry)))) ⌝ }
 {
     let [lead, rest @ ..] = s else {
