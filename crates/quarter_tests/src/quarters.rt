@@ -4,6 +4,12 @@ use crate::bytes::head;
 use crate::bytes::idle;
 use crate::bytes::printed;
 use crate::bytes::up;
+use crate::zone_average::ZoneAverage;
+use crate::zone_average::ZoneAverageRulebook;
+use pricing::fault::QuoteFaultDebug;
+use pricing::quote::quote_source;
+use sheet::sheet::Sheet;
+use sheet::sheet::SheetSource;
 use std::test::*;
 
 #[test]
@@ -106,4 +112,15 @@ fn down_quarter(rt: LibcRuntime) -> Result<(), Fail> {
         text.as_str(),
         "1 D -0.01\n2 D -0.01\n3 D -0.01\n4 D -0.01\n5 D -3.00\n",
     )
+}
+
+// A rulebook from outside is quoted as the library's own are.
+#[test]
+fn own_rulebook(rt: LibcRuntime) -> Result<(), Fail> {
+    let mut bytes = head(rt.alloc(), 200_000, None)?;
+    up(&mut bytes, 225, 80_000, 10_000)?;
+    up(&mut bytes, 1, 200_000, 5_000)?;
+    idle(&mut bytes, 2)?;
+    let quote = quote_source(&Sheet::read(bytes.as_slice()), &ZoneAverage)?;
+    check(quote.code == 31 && quote.price.cents() == 6_429)
 }
