@@ -17,7 +17,8 @@ use units::price::Price;
 use units::quantity::DemandQuantity;
 use units::quantity::PriceQuantity;
 
-/// A slot as the sheet has it: by its lead byte, with the bytes after that and their place.
+/// A slot as the sheet has it: by its lead byte, with the bytes after that and their place. Its quantities are asked of
+/// the reader: an enum that borrows can't hold values with a ghost field.
 #[derive(Clone, Copy)]
 pub enum Record<'a> {
     Unreported { place: usize },
