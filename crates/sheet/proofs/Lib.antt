@@ -1,5 +1,6 @@
 pub mod Firsts
 pub mod Leads
+pub mod Opening
 pub mod Places
 pub mod Quantities
 pub mod Standings

@@ -14,6 +14,9 @@ use units::quantity::PriceQuantity;
 use units::quantity::ZoneNetQuantity;
 use units::zone_net::ZoneNet;
 
+/// The bytes that open every sheet.
+pub const OPENING: &[u8; 4] = b"ISP1";
+
 /// What stands before the slots, and the place of the first record.
 #[derive(Clone, Copy)]
 pub struct Head {
@@ -27,16 +30,15 @@ fn check_opening(sheet: &[u8]) -> Result<(), SheetFault>
     ensures checks { λ r. ⌜ r ≡ opens 0 opening (now (sheet .entry)) ⌝ }
     ensures long { λ r. ⌜ onOk r (λ _. 4 ≤ length (now (sheet .entry))) ⌝ }
 {
-    match sheet {
-        [b'I', b'S', b'P', b'1', ..] => Ok(()),
-        [] | [b'I'] | [b'I', b'S'] | [b'I', b'S', b'P'] => Err(SheetFault::Ends {
-            place: sheet.len(),
-        }),
-        [b'I', b'S', b'P', ..] => Err(SheetFault::Opening { place: 3 }),
-        [b'I', b'S', ..] => Err(SheetFault::Opening { place: 2 }),
-        [b'I', ..] => Err(SheetFault::Opening { place: 1 }),
-        _ => Err(SheetFault::Opening { place: 0 }),
+    for place in 0..OPENING.len() {
+        if place >= sheet.len() {
+            return Err(SheetFault::Ends { place });
+        }
+        if sheet[place] != OPENING[place] {
+            return Err(SheetFault::Opening { place });
+        }
     }
+    Ok(())
 }
 
 // The avoided value by the flag at `at`, and the place after it.
