@@ -1,7 +1,4 @@
 use borrow.Author.Needs.{needs}
-use mir.Syntax.{w64}
-use mir.Val.{SFits}
-use Rattle.std.proofs.shelf.Signed.{toZ-ofZ}
 use native.Mathlib.Omega.{arith}
 use mathlib.Core.Path.{refl}
 use Rattle.figures.proofs.Counted.{counts-shown}
@@ -47,7 +44,7 @@ ghost-result g c =
         quarter-given m (c .in-Continue-tally .tally) (c .noting .result) (c .noting-2 .result) (c .noting-all .result)
             (record { scheduled = c .in-Continue-scheduled .scheduled; «direct_up» = c .in-Continue-direct-up .direct-up; «direct_down» = c .in-Continue-direct-down .direct-down })
             (c .in-Continue-tally .ensures tt) (c .in-Continue-scheduled .ensures tt) (c .in-Continue-direct-up .ensures tt) (c .in-Continue-direct-down .ensures tt)
-            (c .noting .ensures) (c .noting-2 .ensures) (c .noting-all .ensures) _ _ _ _ _ (toZ-ofZ w64 (c .noting-all .result .net) f) (c .zone-net .ensures) (c .avoided .ensures)
+            (c .noting .ensures) (c .noting-2 .ensures) (c .noting-all .ensures) _ _ _ _ _ (search needs) (c .zone-net .ensures) (c .avoided .ensures)
             (c .side .ensures) (c .side-2 .ensures),
       ) ∣₁,
       tt,
@@ -55,11 +52,10 @@ ghost-result g c =
 
 pub returns : need.returns
 returns g c =
-    let f : SFits w64 (c .noting-all .result .net) = search needs in
     let given =
     quarter-given (g .S·PriceSource .means (c .args .source .now)) (c .in-Continue-tally .tally) (c .noting .result) (c .noting-2 .result) (c .noting-all .result)
     (record { scheduled = c .in-Continue-scheduled .scheduled; «direct_up» = c .in-Continue-direct-up .direct-up; «direct_down» = c .in-Continue-direct-down .direct-down })
     (c .in-Continue-tally .ensures tt) (c .in-Continue-scheduled .ensures tt) (c .in-Continue-direct-up .ensures tt) (c .in-Continue-direct-down .ensures tt)
-    (c .noting .ensures) (c .noting-2 .ensures) (c .noting-all .ensures) _ _ _ _ _ (toZ-ofZ w64 (c .noting-all .result .net) f) (c .zone-net .ensures) (c .avoided .ensures)
+    (c .noting .ensures) (c .noting-2 .ensures) (c .noting-all .ensures) _ _ _ _ _ (search needs) (c .zone-net .ensures) (c .avoided .ensures)
     (c .side .ensures) (c .side-2 .ensures) in
     record { value = given; counting = counts-shown (g .S·PriceSource .means (c .args .source .now)) _ given }
