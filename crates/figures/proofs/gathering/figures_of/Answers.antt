@@ -37,8 +37,7 @@ noting-all-requires g c κs =
 
 pub ghost-result : need.ghost-result
 ghost-result g c =
-    let m = g .S·PriceSource .means (c .args .source .now) in
-    let f : SFits w64 (c .noting-all .result .net) = search needs in (
+    let m = g .S·PriceSource .means (c .args .source .now) in (
       ∣ (
         m,
         quarter-given m (c .in-Continue-tally .tally) (c .noting .result) (c .noting-2 .result) (c .noting-all .result)
