@@ -3,9 +3,10 @@ ghost use mathlib.Core.Path.{_≡_};
 ghost use Rattle.sheet.specs.Faults.{numberSpot, numberNumber, recordSpot, recordNumber, faultNumber, faultPlace, faultSlot};
 ghost use Rattle.sheet.specs.declared.fault.RecordFault.the-variants.{Number};
 ghost use Rattle.sheet.specs.declared.fault.SheetFault.the-variants.{Head, Slot};
+use source::slot::SLOTS;
 
 /// The slot number that is given for a byte of the head, and after the last slot.
-pub const HEAD: usize = 228;
+pub const HEAD: usize = SLOTS;
 
 /// A place among the sheet's bytes, and the slot that it belongs to.
 #[derive(Clone, Copy, Debug)]

@@ -5,9 +5,6 @@ ghost use Prim.Native.Nat.{_≤_};
 ghost use lib.ListN.{length};
 use source::slot::Slot;
 
-/// The slots of a quarter hour.
-pub const SLOTS: usize = 228;
-
 /// A sheet's bytes with the next slot to read, the place of its record, and what the last record told.
 #[derive(Drop)]
 pub struct Reader<'a> {

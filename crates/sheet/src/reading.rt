@@ -8,10 +8,10 @@ use crate::fault::SheetFaultFromRecord;
 use crate::fault::Spot;
 use crate::head::Head;
 use crate::reader::Reader;
-use crate::reader::SLOTS;
 use crate::slot_record::Record;
 use crate::slot_record::read_slot;
 use crate::slot_record::record_of;
+use source::slot::SLOTS;
 use source::slot::Slot;
 
 impl<'a> Reader<'a> {

@@ -7,9 +7,9 @@ ghost use Rattle.sheet.specs.Sheets.{sheetSlots, sheetNet, sheetAvoided, first
 use crate::fault::SheetFault;
 use crate::head::Head;
 use crate::reader::Reader;
-use crate::reader::SLOTS;
 use source::price_source::PriceSource;
 use source::slot::NoSuchSlot;
+use source::slot::SLOTS;
 use source::slot::Slot;
 use units::price::Price;
 use units::zone_net::ZoneNet;

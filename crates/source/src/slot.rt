@@ -6,6 +6,9 @@ use crate::direction::Direction;
 use units::demand::Demand;
 use units::price::Price;
 
+/// The slots of a quarter.
+pub const SLOTS: usize = 228;
+
 /// The area's satisfied demand in the slot, and the prices formed for it.
 #[derive(Clone, Copy)]
 pub struct Reading {
