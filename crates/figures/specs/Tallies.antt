@@ -1,4 +1,4 @@
--- The sums over the slots that were read so far, one slot at a time.
+-- The sums over the slots that were read so far, one slot at a time: what the private functions of the gathering promise.
 use mathlib.Core.Path.{_≡_}
 use Prim.Native.Nat.{ℕ, _*_, _≤_}
 use lib.IntN.{ℤ, pos, natAbs, _+ℤ_, _*ℤ_}
