@@ -1,0 +1,20 @@
+use native.Mathlib.Omega.{arith}
+use Rattle.writing.specs.Bytes.{sheetBytes}
+use Rattle.writing.proofs.WriteRows.{fit-answer, fit-left, sheet-parts, sheet-written}
+use Rattle.writing.proofs.sheet_writer.write_sheet.Needs as need
+
+pub put-head-at-requires : need.put-head-at-requires
+put-head-at-requires g c κs = omega (arith, sheet-parts (g .S·PriceSource .means (c .args .source .now)), c .sheet-len-needed .ensures)
+
+pub put-slots-requires : need.put-slots-requires
+put-slots-requires g c κs = omega (arith, sheet-parts (g .S·PriceSource .means (c .args .source .now)), c .sheet-len-needed .ensures, c .put-head-at .ensures .end)
+
+pub returns : need.returns
+returns g c =
+    let m = g .S·PriceSource .means (c .args .source .now) in
+    let w = sheet-written m (c .args .out .now) (c .put-head-at .last .out) (c .put-slots .last .out) (c .put-head-at .result) (c .put-slots .result)
+      (omega (arith, c .sheet-len-needed .ensures)) (c .put-head-at .ensures .bytes) (c .put-head-at .ensures .end) (c .put-slots .ensures .bytes) (c .put-slots .ensures .end) in
+    record {
+      answers = fit-answer (sheetBytes m) (c .args .out .now) (c .put-slots .result) (omega (arith, c .sheet-len-needed .ensures)) (w .0);
+      leaves = fit-left (sheetBytes m) (c .args .out .now) (c .put-slots .last .out) (omega (arith, c .sheet-len-needed .ensures)) (w .1);
+    }
