@@ -1,10 +1,11 @@
 -- The slots of a sheet, one after another, and what a writer leaves.
-use mathlib.Core.List.{List, [], _∷_, _++_, append-assoc}
+use mathlib.Core.List.{List, [], _∷_, _++_, append-assoc, append-nil}
 use mathlib.Core.Path.{_≡_, refl, ap, sym, subst, _∙_}
 use Prim.Native.Nat.{ℕ, zero, suc, _+_, _-_, _<_, _≤_}
 use native.Mathlib.Numerals.{add-one}
 use native.Mathlib.Omega.{arith}
-use lib.ListN.{length, length-append, take, drop}
+use lib.ListN.{drop-of-length-le, length, length-append, take, drop}
+use Rattle.std.proofs.shelf.Lists.{take-at}
 use Rattle.std.proofs.shelf.Ways.{tells}
 use Rattle.std.specs.declared.result.Result.the-variants.{Ok, Err}
 use Rattle.sheet.specs.Heads.{opening}
@@ -92,3 +93,11 @@ unfolding sheetBytes
 sheet-written m o a b i k room x1 y1 x2 y2 =
     let p = sheet-parts m in
     (omega (arith, p), then-over o a b 0 i (headBytes m) (rowBytes (m .slots) 228) (omega (arith, p)) x1 (omega (arith, y1)) x2)
+
+-- a buffer of just the sheet's length holds the sheet
+pub vec-written : (s before out items : List ℕ) (len : ℕ) → length before ≡ length s → out ≡ left s before → len ≡ length s → take len (out ++ drop (length out) items) ≡ s
+vec-written s before out items len e x l =
+    let w : left s before ≡ s ++ drop (length s) before = sym (fit-whole s before (omega arith)) in
+    let n : drop (length s) before ≡ [] = drop-of-length-le before {i = length s} (omega arith) in
+    let o : out ≡ s = x ∙ (w ∙ (ap (λ t. s ++ t) n ∙ append-nil s)) in
+    ap (λ t. take len (t ++ drop (length out) items)) o ∙ take-at s (drop (length out) items) len (sym l)

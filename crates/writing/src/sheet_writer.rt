@@ -92,3 +92,12 @@ pub fn write_sheet<S: PriceSource>(source: &S, out: &mut [u8]) -> Result<usize, 
     let at = put_head(source, out);
     Ok(put_slots(source, out, at))
 }
+
+/// The sheet of a source, in memory of its own.
+pub fn sheet_vec<S: PriceSource>(heap: Global, source: &S) -> Result<Vec<u8>, AllocError>
+    ensures { λ r. ⌜ onOk r (λ v. vec-items v ≡ sheetBytes (S·PriceSource .means (now (source .entry)))) ⌝ }
+{
+    let mut sheet = vec![in heap; 0; sheet_len(source)]?;
+    let _ = write_sheet(source, sheet.as_mut_slice());
+    Ok(sheet)
+}
