@@ -38,7 +38,7 @@ fn fill_slot(avoided: Option<Price>, slot: Slot) -> Slot
 
 /// What the source below tells, with the avoided value as the price of each cycle that has demand in a
 /// direction and no price formed in it.
-#[derive(Clone, Copy)]
+#[derive(Clone, Copy, Drop)]
 pub struct NettingFill<S> {
     pub below: S,
 }
