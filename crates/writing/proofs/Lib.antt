@@ -1,1 +1,2 @@
 pub mod NumberTrips
+pub mod SlotTrips

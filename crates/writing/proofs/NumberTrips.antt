@@ -1,8 +1,10 @@
 -- A number is read back as it was written, and was written in the one form that is read.
+use mathlib.Core.Bool.{Bool, true, false}
 use mathlib.Core.List.{List, [], _∷_, _++_}
 use mathlib.Core.Path.{_≡_, refl, ap, sym, _∙_}
 use Prim.Native.Nat.{ℕ, _+_, _-_, _*_, _/_, _%_, _<_, _≤_, _^_}
 use native.Mathlib.Omega.{arith}
+use lib.Dec.{T, leb}
 use lib.IntN.{ℤ, pos, negsuc, natAbs}
 use lib.ListN.{length, drop}
 use Rattle.std.proofs.shelf.Elements.{all-drop}
@@ -11,7 +13,13 @@ use Rattle.std.proofs.shelf.Ways.{tells}
 use Rattle.std.specs.declared.result.Result.{Result}
 use Rattle.std.specs.declared.result.Result.the-variants.{Ok, Err}
 use Rattle.std.specs.shelf.Lists.{All}
+use Rattle.units.proofs.Made.{demand-made, price-made, zone-net-made}
 use Rattle.units.specs.declared.bounds.OutOfBounds.{OutOfBounds}
+use Rattle.units.specs.declared.bounds.OutOfBounds.the-variants as is
+use Rattle.units.specs.declared.demand.Demand.{Demand}
+use Rattle.units.specs.declared.price.Price.{Price}
+use Rattle.units.specs.declared.zone_net.ZoneNet.{ZoneNet}
+use Rattle.units.specs.Quantities.{ifT, demandOf, priceOf, zoneNetOf}
 use Rattle.sheet.specs.declared.fault.Spot.{Spot}
 use Rattle.sheet.specs.Groups.{groups, Groups, unfolded}
 use Rattle.sheet.specs.Numbers.{quantity, judged, bounded, ahead, Number}
@@ -72,3 +80,31 @@ module _ {Q : Type 0} (made : ℤ → Result Q OutOfBounds) (p : Spot) (s : List
     pub number-form : quantity made p s from ≡ Ok (q, end) → drop from s ≡ numberBytes (val q) ++ drop end s
     unfolding quantity
     number-form e = by-groups (groups (drop from s)) refl e
+
+-- what is made of a number within its bounds has that number
+value-of : {Q : Type 0} (c : Bool) (make : T c → Q) (x : OutOfBounds) (val : Q → ℤ) (z : ℤ) → ((h : T c) → z ≡ val (make h))
+    → (q : Q) → ifT c (λ h. Ok (make h)) (Err x) ≡ Ok q → z ≡ val q
+value-of true make x val z of q e =
+    let m : make tt ≡ q = grind arith in
+    of tt ∙ ap val m
+value-of false make x val z of q e = let c : _≡_ {A = ℕ} 0 1 = cc in absurd (omega arith)
+
+module _ (p : Spot) (s : List ℕ) (from : ℕ) where
+  pub demand-back : (d : Demand) (rest : List ℕ) → drop from s ≡ numberBytes (d .kw) ++ rest → quantity demandOf p s from ≡ Ok (d, from + length (numberBytes (d .kw)))
+  demand-back d rest e = number-back demandOf p s from d (d .kw) rest e (omega (arith, d .bounded)) (demand-made (d .kw) d refl)
+
+  pub price-back : (u : Price) (rest : List ℕ) → drop from s ≡ numberBytes (u .cents) ++ rest → quantity priceOf p s from ≡ Ok (u, from + length (numberBytes (u .cents)))
+  price-back u rest e = number-back priceOf p s from u (u .cents) rest e (omega (arith, u .bounded)) (price-made (u .cents) u refl)
+
+  pub net-back : (z : ZoneNet) (rest : List ℕ) → drop from s ≡ numberBytes (z .kw) ++ rest → quantity zoneNetOf p s from ≡ Ok (z, from + length (numberBytes (z .kw)))
+  net-back z rest e = number-back zoneNetOf p s from z (z .kw) rest e (z .bounded) (zone-net-made (z .kw) z refl)
+
+  module _ (b : All (λ x. x < 256) s) where
+    pub demand-form : (g : Demand × ℕ) → quantity demandOf p s from ≡ Ok g → drop from s ≡ numberBytes (g .0 .kw) ++ drop (g .1) s
+    demand-form g = number-form demandOf p s from (λ d. d .kw) (λ z. value-of (leb (natAbs z) 10_000_000) _ is.Demand (λ d. d .kw) z (λ h. refl)) b (g .0) (g .1)
+
+    pub price-form : (g : Price × ℕ) → quantity priceOf p s from ≡ Ok g → drop from s ≡ numberBytes (g .0 .cents) ++ drop (g .1) s
+    price-form g = number-form priceOf p s from (λ u. u .cents) (λ z. value-of (leb (natAbs z) 9_999_900) _ is.Price (λ u. u .cents) z (λ h. refl)) b (g .0) (g .1)
+
+    pub net-form : (g : ZoneNet × ℕ) → quantity zoneNetOf p s from ≡ Ok g → drop from s ≡ numberBytes (g .0 .kw) ++ drop (g .1) s
+    net-form g = number-form zoneNetOf p s from (λ u. u .kw) (λ z. value-of (leb (natAbs z) 100_000_000) _ is.ZoneNet (λ u. u .kw) z (λ h. refl)) b (g .0) (g .1)

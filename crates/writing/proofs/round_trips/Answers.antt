@@ -1,5 +1,5 @@
 use Rattle.writing.proofs.round_trips.Needs as need
-use Rattle.writing.proofs.NumberTrips.{number-back, number-form}
+use Rattle.writing.proofs.SlotTrips.{slot-back, slot-formed}
 
 pub returns : need.returns
 returns c = record { tells-back = ?; same-bytes = ? }
