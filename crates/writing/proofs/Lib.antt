@@ -1,2 +1,4 @@
+pub mod HeadTrips
 pub mod NumberTrips
+pub mod RowTrips
 pub mod SlotTrips
