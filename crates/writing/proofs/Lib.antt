@@ -1,4 +1,5 @@
 pub mod HeadTrips
 pub mod NumberTrips
 pub mod RowTrips
+pub mod SheetTrips
 pub mod SlotTrips

@@ -2,7 +2,7 @@
 use mathlib.Core.Bool.{Bool, true, false}
 use mathlib.Core.List.{List, [], _∷_, _++_}
 use mathlib.Core.Path.{_≡_, refl, ap, sym, _∙_}
-use Prim.Native.Nat.{ℕ, _+_, _-_, _*_, _/_, _%_, _<_, _≤_, _^_}
+use Prim.Native.Nat.{ℕ, _+_, _<_, _≤_, _^_}
 use native.Mathlib.Omega.{arith}
 use lib.Dec.{T, leb}
 use lib.IntN.{ℤ, pos, negsuc, natAbs}
@@ -22,7 +22,7 @@ use Rattle.units.specs.declared.zone_net.ZoneNet.{ZoneNet}
 use Rattle.units.specs.Quantities.{ifT, demandOf, priceOf, zoneNetOf}
 use Rattle.sheet.specs.declared.fault.Spot.{Spot}
 use Rattle.sheet.specs.Groups.{groups, Groups, unfolded}
-use Rattle.sheet.specs.Numbers.{quantity, judged, bounded, ahead, Number}
+use Rattle.sheet.specs.Numbers.{quantity, judged, bounded, ahead}
 use Rattle.writing.specs.Bytes.{folded, groupsOf, numberBytes}
 
 -- groups are read back, whatever follows them

@@ -1,6 +1,5 @@
-use Rattle.writing.proofs.HeadTrips.{head-back, headed-as}
-use Rattle.writing.proofs.RowTrips.{row-back, row-stood}
+use Rattle.writing.proofs.SheetTrips.{tells-back, same-bytes}
 use Rattle.writing.proofs.round_trips.Needs as need
 
 pub returns : need.returns
-returns c = record { tells-back = ?; same-bytes = ? }
+returns c = record { tells-back = tells-back; same-bytes = same-bytes }
