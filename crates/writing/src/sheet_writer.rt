@@ -5,6 +5,7 @@ ghost use lib.ListN.{length};
 ghost use Rattle.std.specs.Of.Vec.{vec-items};
 ghost use Rattle.std.specs.Vec.{made as onOk};
 ghost use Rattle.writing.specs.Bytes.{headBytes, rowBytes, sheetBytes};
+ghost use Rattle.writing.specs.Trips.{SameBytes, TellsBack};
 ghost use Rattle.writing.specs.Writes.{left, over, written};
 use crate::number::fold_net;
 use crate::number::groups_len;
@@ -84,6 +85,8 @@ fn put_slots<S: PriceSource>(source: &S, out: &mut [u8], start: usize) -> usize
 pub fn write_sheet<S: PriceSource>(source: &S, out: &mut [u8]) -> Result<usize, ShortBuffer>
     ensures answers { λ r. ⌜ r ≡ written (sheetBytes (S·PriceSource .means (now (source .entry)))) (now (out .entry)) ⌝ }
     ensures leaves { λ _. ⌜ now (out .exit) ≡ left (sheetBytes (S·PriceSource .means (now (source .entry)))) (now (out .entry)) ⌝ }
+    ensures tells_back { λ _. ⌜ TellsBack (S·PriceSource .means (now (source .entry))) ⌝ }
+    ensures same_bytes { λ _. ⌜ SameBytes (S·PriceSource .means (now (source .entry))) ⌝ }
 {
     let needed = sheet_len(source);
     if out.len() < needed {
@@ -95,7 +98,9 @@ pub fn write_sheet<S: PriceSource>(source: &S, out: &mut [u8]) -> Result<usize, 
 
 /// The sheet of a source, in memory of its own.
 pub fn sheet_vec<S: PriceSource>(heap: Global, source: &S) -> Result<Vec<u8>, AllocError>
-    ensures { λ r. ⌜ onOk r (λ v. vec-items v ≡ sheetBytes (S·PriceSource .means (now (source .entry)))) ⌝ }
+    ensures made { λ r. ⌜ onOk r (λ v. vec-items v ≡ sheetBytes (S·PriceSource .means (now (source .entry)))) ⌝ }
+    ensures tells_back { λ _. ⌜ TellsBack (S·PriceSource .means (now (source .entry))) ⌝ }
+    ensures same_bytes { λ _. ⌜ SameBytes (S·PriceSource .means (now (source .entry))) ⌝ }
 {
     let mut sheet = vec![in heap; 0; sheet_len(source)]?;
     let _ = write_sheet(source, sheet.as_mut_slice());

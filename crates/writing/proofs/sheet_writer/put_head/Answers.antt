@@ -28,10 +28,10 @@ returns g c =
     let n = numbered _ _ (c .fold-net .ensures .value) ∙ ap (λ z. numberBytes (z .kw)) (c .zone-net .ensures) in
     let v = ap avoidedBytes (c .avoided .ensures) in
     let w = head-written m (c .args .out .now) (c .put-bytes-net .last .out) (c .put-groups-avoided .last .out) (c .put-avoided .last .out)
-      (c .put-bytes-net .result) (c .put-groups-avoided .result) (c .put-avoided .result) (c .pre)
-      (c .put-bytes-net .ensures .bytes) (c .put-bytes-net .ensures .end)
-      (c .put-groups-avoided .ensures .bytes ∙ ap (over (c .put-bytes-net .last .out) (c .put-bytes-net .result)) n)
-      (c .put-groups-avoided .ensures .end ∙ ap (λ t. c .put-bytes-net .result + length t) n)
-      (c .put-avoided .ensures .bytes ∙ ap (over (c .put-groups-avoided .last .out) (c .put-groups-avoided .result)) v)
-      (c .put-avoided .ensures .end ∙ ap (λ t. c .put-groups-avoided .result + length t) v) in
+    (c .put-bytes-net .result) (c .put-groups-avoided .result) (c .put-avoided .result) (c .pre)
+    (c .put-bytes-net .ensures .bytes) (c .put-bytes-net .ensures .end)
+    (c .put-groups-avoided .ensures .bytes ∙ ap (over (c .put-bytes-net .last .out) (c .put-bytes-net .result)) n)
+    (c .put-groups-avoided .ensures .end ∙ ap (λ t. c .put-bytes-net .result + length t) n)
+    (c .put-avoided .ensures .bytes ∙ ap (over (c .put-groups-avoided .last .out) (c .put-groups-avoided .result)) v)
+    (c .put-avoided .ensures .end ∙ ap (λ t. c .put-groups-avoided .result + length t) v) in
     record { end = w .0; bytes = w .1 }

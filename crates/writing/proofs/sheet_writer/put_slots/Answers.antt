@@ -30,7 +30,7 @@ loop-slot-again g c =
     let b = slotBytes (m (c .loop-slot .slot)) in
     let s = ap slotBytes (c .told .ensures h) in
     let x = then-over (c .args .out .now) (c .loop-slot .out) (c .put-slot-at .last .out) (c .args .start) (c .loop-slot .at) a b (omega (arith, r))
-      (c .loop-slot .inv .1) (c .loop-slot .inv .0) (c .put-slot-at .ensures .bytes ∙ ap (over (c .loop-slot .out) (c .loop-slot .at)) s) in
+    (c .loop-slot .inv .1) (c .loop-slot .inv .0) (c .put-slot-at .ensures .bytes ∙ ap (over (c .loop-slot .out) (c .loop-slot .at)) s) in
     let y = then-end (c .args .start) (c .loop-slot .at) (c .put-slot-at .result) a b (c .loop-slot .inv .0) (c .put-slot-at .ensures .end ∙ ap (λ t. c .loop-slot .at + length t) s) in
     (y ∙ ap (λ t. c .args .start + length t) (sym p), x ∙ ap (over (c .args .out .now) (c .args .start)) (sym p))
 

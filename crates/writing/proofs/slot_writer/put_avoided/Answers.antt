@@ -23,6 +23,6 @@ returns-in-Some c =
     let p = numberBytes (c .in-Some .price .cents) in
     let i = ap avoidedBytes (sym (c .in-Some .is)) in
     let x = then-over (c .args .out .now) (c .put-bytes-next .last .out) (c .put-groups .last .out) (c .args .at) (c .put-bytes-next .result) one p (omega (arith, r))
-      (c .put-bytes-next .ensures .bytes) (c .put-bytes-next .ensures .end) (c .put-groups .ensures .bytes ∙ ap (over (c .put-bytes-next .last .out) (c .put-bytes-next .result)) n) in
+    (c .put-bytes-next .ensures .bytes) (c .put-bytes-next .ensures .end) (c .put-groups .ensures .bytes ∙ ap (over (c .put-bytes-next .last .out) (c .put-bytes-next .result)) n) in
     let y = then-end (c .args .at) (c .put-bytes-next .result) (c .put-groups .result) one p (c .put-bytes-next .ensures .end) (c .put-groups .ensures .end ∙ ap (λ t. c .put-bytes-next .result + length t) n) in
     record { end = y ∙ ap (λ t. c .args .at + length t) i; bytes = x ∙ ap (over (c .args .out .now) (c .args .at)) i }

@@ -47,9 +47,9 @@ pub returns : need.returns
 returns c =
     let r = c .args .reading in
     let w = all-written (c .args .out .now) (c .put-bytes-demand .last .out) (c .put-demand-up .last .out) (c .put-price-down .last .out) (c .put-price .last .out)
-      (c .args .at) (c .put-bytes-demand .result) (c .put-demand-up .result) (c .put-price-down .result) (c .put-price .result)
-      (byPrices (r .up) (r .down)) (c .lead-of .result) (numberBytes (r .demand .kw)) (priceBytes (r .up)) (priceBytes (r .down))
-      (c .pre) (c .lead-of .ensures) (c .put-bytes-demand .ensures .bytes) (c .put-bytes-demand .ensures .end)
-      (c .put-demand-up .ensures .bytes) (c .put-demand-up .ensures .end) (c .put-price-down .ensures .bytes) (c .put-price-down .ensures .end)
-      (c .put-price .ensures .bytes) (c .put-price .ensures .end) in
+    (c .args .at) (c .put-bytes-demand .result) (c .put-demand-up .result) (c .put-price-down .result) (c .put-price .result)
+    (byPrices (r .up) (r .down)) (c .lead-of .result) (numberBytes (r .demand .kw)) (priceBytes (r .up)) (priceBytes (r .down))
+    (c .pre) (c .lead-of .ensures) (c .put-bytes-demand .ensures .bytes) (c .put-bytes-demand .ensures .end)
+    (c .put-demand-up .ensures .bytes) (c .put-demand-up .ensures .end) (c .put-price-down .ensures .bytes) (c .put-price-down .ensures .end)
+    (c .put-price .ensures .bytes) (c .put-price .ensures .end) in
     record { end = w .0; bytes = w .1 }
