@@ -1,4 +1,6 @@
 // Functions for callers in C and Rust, over plain numbers and byte slices.
+#![tactic(auto)]
+
 pub mod day;
 pub mod plain;
 pub mod quarter;

@@ -86,7 +86,7 @@ impl ManualSlots {
 
 /// The figures of a quarter, each slot asked for once; refused where a slot is not reported.
 pub fn figures_of<S: PriceSource>(source: &S) -> Result<Figures, UnreportedSlot>
-    ensures figured { Figured (S.PriceSource.means source.now) result }
+    ensures value { Figured (S.PriceSource.means source.now) result }
     ensures counting { CountsShown (S.PriceSource.means source.now).slots result }
 {
     let tally = cycles(source)?;

@@ -1,4 +1,6 @@
 // The figures of a quarter: what its slots sum up to, and the prices that follow from the sums.
+#![tactic(auto)]
+
 pub mod components;
 pub mod fault;
 pub mod gathering;

@@ -1,5 +1,7 @@
 // A rink's afternoon in small: four quarters are priced, two parties metered and settled, a meter value comes
 // late, and both are settled again. Each call of the book is one line.
+#![tactic(auto)]
+
 mod halt;
 mod step;
 mod tables;

@@ -1,3 +1,5 @@
 // The printed lines of one quarter.
+#![tactic(auto)]
+
 pub mod line;
 pub mod quarter_lines;

@@ -1,4 +1,6 @@
 // Lays the netting fill over a sheet from standard input, and writes the filled sheet to standard output.
+#![tactic(auto)]
+
 use lines::quarter_lines::QuarterLines;
 use sheet::sheet::Sheet;
 use source::netting_fill::NettingFill;

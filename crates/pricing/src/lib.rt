@@ -1,4 +1,6 @@
 // From the figures of a quarter to its imbalance price: rulebooks and quotes.
+#![tactic(auto)]
+
 pub mod fault;
 pub mod quote;
 pub mod rulebook;

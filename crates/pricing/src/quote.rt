@@ -39,7 +39,7 @@ fn standing_of(direction: Direction) -> QuoteDirection
 
 /// The quote of figures that were worked out before.
 pub fn quote_figures<R: Rulebook>(figures: &Figures, rulebook: &R) -> Result<Quote, QuoteFault>
-    ensures quotes { Quotes R.Rulebook.code (R.Rulebook.ruling figures.now) figures.now.avoided result }
+    ensures value { Quotes R.Rulebook.code (R.Rulebook.ruling figures.now) figures.now.avoided result }
     ensures laws_kept { KeepsLaws R.Rulebook.net figures.now (R.Rulebook.ruling figures.now) }
     ensures bounds_kept { QuoteBounded figures.now result }
 {
@@ -68,7 +68,7 @@ pub fn quote_source<S: PriceSource, R: Rulebook>(
     source: &S,
     rulebook: &R,
 ) -> Result<Quote, QuoteFault>
-    ensures quoted { Quoted (S.PriceSource.means source.now) R.Rulebook.code R.Rulebook.ruling result }
+    ensures value { Quoted (S.PriceSource.means source.now) R.Rulebook.code R.Rulebook.ruling result }
     ensures only_answer { (a : Answer) → Quoted (S.PriceSource.means source.now) R.Rulebook.code R.Rulebook.ruling a → a ≡ result }
     ensures bounds_kept { SourceBounded (S.PriceSource.means source.now) result }
 {

@@ -1,4 +1,6 @@
 // Worked quarters and damaged sheets, each written out as bytes and compared with its printed lines.
+#![tactic(auto)]
+
 #[cfg(test)]
 mod bytes;
 #[cfg(test)]

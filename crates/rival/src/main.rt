@@ -1,5 +1,7 @@
 // Works out prices and payments a second way, and compares each with what the library gives. There is a line for each
 // named case and for each hundred of the others, and a closing count.
+#![tactic(auto)]
+
 mod compare;
 mod day;
 mod fraction;

@@ -1,4 +1,6 @@
 // A packed sheet of one quarter hour: bytes that are read, checked and asked as a price source.
+#![tactic(auto)]
+
 pub mod fault;
 pub mod head;
 mod number;

@@ -1,4 +1,6 @@
 // Quantities of a quarter hour. Each lies in its bounds from its making, so no later call checks it again.
+#![tactic(auto)]
+
 pub mod bounds;
 pub mod demand;
 pub mod euros;

@@ -1,4 +1,6 @@
 // Quarters, payments and numbers worked by hand, held against the definitions that the contracts cite.
+#![tactic(auto)]
+
 ghost use Rattle.std.specs.Prelude.{◌≡◌};
 ghost use Rattle.worked.specs.Cases.{WorkedByHand};
 

@@ -1,4 +1,6 @@
 // Tables, the netting fill and written sheets, at their edges.
+#![tactic(auto)]
+
 #[cfg(test)]
 mod sources;
 #[cfg(test)]

@@ -7,4 +7,4 @@ pub returns-in-Ok : goal.returns-in-Ok
 returns-in-Ok c =
     subst (λ s. Told s c.plain-figures.result) c.read-sheet.ensures
     (subst (λ r. ToldBy r (sheet_meaning c.read-sheet.result.bytes.now) c.plain-figures.result) c.in-default.ensures.first
-    (inr (record { figures = c.in-Ok.figures; gives = c.in-Ok.ensures.figured; is = c.plain-figures.ensures })))
+    (inr (record { figures = c.in-Ok.figures; gives = c.in-Ok.ensures.value; is = c.plain-figures.ensures })))

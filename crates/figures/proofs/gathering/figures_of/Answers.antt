@@ -55,4 +55,4 @@ returns g c =
     c.in-ok-tally.ensures c.in-ok-scheduled.ensures c.in-ok-direct-up.ensures c.in-ok-direct-down.ensures
     c.noting.ensures c.noting-2.ensures c.noting-all.ensures _ _ _ _ _ (search rules) c.zone-net.ensures c.avoided.ensures
     c.side.ensures c.side-2.ensures in
-    record { figured = given; counting = counts_shown (g.S.PriceSource.means c.args.source.now) _ given }
+    record { value = given; counting = counts_shown (g.S.PriceSource.means c.args.source.now) _ given }

@@ -7,4 +7,4 @@ pub returns-in-Ok : goal.returns-in-Ok
 returns-in-Ok c =
     subst (λ s. Printed s (five_text c.quoted.result)) c.read-sheet.ensures
     (subst (λ r. PrintedBy r (sheet_meaning c.read-sheet.result.bytes.now) (five_text c.quoted.result)) c.in-default.ensures.first
-    (inr (record { figures = c.in-Ok.figures; gives = c.in-Ok.ensures.figured; prints = c.quoted.ensures })))
+    (inr (record { figures = c.in-Ok.figures; gives = c.in-Ok.ensures.value; prints = c.quoted.ensures })))

@@ -12,24 +12,24 @@ lawful : (g : given.Over) (f : Figures) → KeepsLaws g.R.Rulebook.net f (g.R.Ru
 lawful g f = record { direction = g.met.R.Rulebook.direction f; counting = g.met.R.Rulebook.counting f; formed = g.met.R.Rulebook.formed f; mean = g.met.R.Rulebook.mean f }
 
 pub returns-in-Some : goal.returns-in-Some
-returns-in-Some g c = record { quotes = search rules; laws-kept = lawful g c.args.figures.now; bounds-kept = c.in-Some.is }
+returns-in-Some g c = record { value = search rules; laws-kept = lawful g c.args.figures.now; bounds-kept = c.in-Some.is }
 
 pub returns-in-None : goal.returns-in-None
-returns-in-None g c = record { quotes = search rules; laws-kept = lawful g c.args.figures.now; bounds-kept = tt }
+returns-in-None g c = record { value = search rules; laws-kept = lawful g c.args.figures.now; bounds-kept = tt }
 
 pub returns-in-Priced : goal.returns-in-Priced
 returns-in-Priced g c =
     let f = c.args.figures.now in
     let laws = lawful g f in
     record {
-      quotes =
+      value =
           subst (λ o. Quotes g.R.Rulebook.code o f.avoided (Ok (record { code = c.number-code.result; direction = c.standing-of.result; price = c.nearest-cent.result })))
           c.in-Priced.ensures
           (record {
             price = c.nearest-cent.result;
             is = ap (λ k. Ok (record { code = k; direction = c.standing-of.result; price = c.nearest-cent.result })) c.number-code.ensures
                 ∙ ap (λ d. Ok (record { code = g.R.Rulebook.code; direction = d; price = c.nearest-cent.result })) c.standing-of.ensures;
-            at = c.nearest-cent.ensures.rounds;
+            at = c.nearest-cent.ensures.value;
           });
       laws-kept = laws;
       bounds-kept =

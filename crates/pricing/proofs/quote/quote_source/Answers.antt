@@ -8,17 +8,17 @@ pub returns-in-err-figures : goal.returns-in-err-figures
 returns-in-err-figures g c =
     let m = g.S.PriceSource.means c.args.source.now in
     let p = err_from_is_err_and c.from-residual.result c.from-residual.ensures.1 in
-    let v = c.in-err-figures.ensures.figured in
-    rw (p.1, p.2) (record { quoted = v; only_answer = λ a h. only_quote m g.R.Rulebook.code g.R.Rulebook.ruling a _ h v; bounds-kept = tt })
+    let v = c.in-err-figures.ensures.value in
+    rw (p.1, p.2) (record { value = v; only_answer = λ a h. only_quote m g.R.Rulebook.code g.R.Rulebook.ruling a _ h v; bounds-kept = tt })
 
 pub returns : goal.returns
 returns g c =
     let m = g.S.PriceSource.means c.args.source.now in
     let f = c.in-ok-figures.figures in
     let r = c.quote-figures.result in
-    let v = from_figures m g.R.Rulebook.code g.R.Rulebook.ruling f r c.in-ok-figures.ensures.figured c.quote-figures.ensures.quotes in
+    let v = from_figures m g.R.Rulebook.code g.R.Rulebook.ruling f r c.in-ok-figures.ensures.value c.quote-figures.ensures.value in
     record {
-      quoted = v;
+      value = v;
       only_answer = λ a h. only_quote m g.R.Rulebook.code g.R.Rulebook.ruling a r h v;
-      bounds-kept = from_bounds m f r c.in-ok-figures.ensures.figured c.quote-figures.ensures.bounds-kept;
+      bounds-kept = from_bounds m f r c.in-ok-figures.ensures.value c.quote-figures.ensures.bounds-kept;
     }

@@ -22,7 +22,7 @@ returns c =
     let b = price_kept n d some c.args.self.bounded in
     let e : to_z w32 (of_z w32 (to_z w64 (of_z w64 c.nearest.result))) ≡ rounded n d = omega (arith, ints) in
     record {
-      rounds = omega (arith, ints);
+      value = omega (arith, ints);
       nearest = nearest_is n d some e;
       only = λ z h. only_nearest n d z some h ∙ sym e;
       symmetric = rounded_neg n d ∙ ap neg_ℤ (sym e);
