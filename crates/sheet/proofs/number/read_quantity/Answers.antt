@@ -7,22 +7,22 @@ use Rattle.sheet.proofs.number.read_quantity.Goals as goal
 
 pub returns-in-Ok-new : goal.returns-in-Ok-new
 returns-in-Ok-new g c =
-    let f : SFits w64 c.unfold-sign.result = search rules in
+    let f : SFits w64 c.unfold_sign.result = search rules in
     let h = simp to_z-of_z at c.in-Ok-new.ensures in
     let k = c.in-Ok.ensures in
     let e = by_groups g.Q.Quantity.made c.args.start c.args.s.now c.args.from (Ok (c.in-Ok.u, c.in-Ok.n)) k.reads in
     record {
-      reads = ap (bounded (ahead c.args.start c.args.from) (c.args.from + c.in-Ok.n)) (h ∙ ap g.Q.Quantity.made c.unfold-sign.ensures) ∙ e;
+      reads = ap (bounded (ahead c.args.start c.args.from) (c.args.from + c.in-Ok.n)) (h ∙ ap g.Q.Quantity.made c.unfold_sign.ensures) ∙ e;
       within = omega (arith, simp (length-take, length-drop) at k.fits.1);
     }
 
 pub returns-in-Err : goal.returns-in-Err
 returns-in-Err g c =
-    let f : SFits w64 c.unfold-sign.result = search rules in
+    let f : SFits w64 c.unfold_sign.result = search rules in
     let h = simp to_z-of_z at c.in-Err.ensures in
     let e = by_groups g.Q.Quantity.made c.args.start c.args.s.now c.args.from (Ok (c.in-Ok.u, c.in-Ok.n)) c.in-Ok.ensures.reads in
     record {
-      reads = ap (bounded (ahead c.args.start c.args.from) (c.args.from + c.in-Ok.n)) (h ∙ ap g.Q.Quantity.made c.unfold-sign.ensures) ∙ e;
+      reads = ap (bounded (ahead c.args.start c.args.from) (c.args.from + c.in-Ok.n)) (h ∙ ap g.Q.Quantity.made c.unfold_sign.ensures) ∙ e;
       within = tt;
     }
 

@@ -3,24 +3,24 @@ use Rattle.std.proofs.lemmas.Result.{err_from_is_err_and}
 use Rattle.sheet.specs.Records.{pair, price_to, pair_from}
 use Rattle.sheet.proofs.slot_record.read_pair.Goals as goal
 
-pub returns-in-err-demand : goal.returns-in-err-demand
+pub returns-in_err-demand : goal.returns-in_err-demand
 unfolding pair
-returns-in-err-demand c =
-    let p = err_from_is_err_and c.from-residual.result c.from-residual.ensures.1 in
-    let d = c.in-err-demand.ensures.reads in
+returns-in_err-demand c =
+    let p = err_from_is_err_and c.from_residual.result c.from_residual.ensures.1 in
+    let d = c.in_err-demand.ensures.reads in
     rw (p.1, p.2) (record { reads = ap (pair_from c.args.start c.args.s.now) d; within = tt })
 
-pub returns-in-err-price : goal.returns-in-err-price
+pub returns-in_err-price : goal.returns-in_err-price
 unfolding pair
-returns-in-err-price c =
-    let p = err_from_is_err_and c.from-residual-in-err-price.result c.from-residual-in-err-price.ensures.1 in
-    let d = c.in-ok-demand.ensures.reads in
-    let u = c.in-err-price.ensures.reads in
-    rw (p.1, p.2) (record { reads = ap (price_to c.in-ok-demand.demand) u ∙ ap (pair_from c.args.start c.args.s.now) d; within = tt })
+returns-in_err-price c =
+    let p = err_from_is_err_and c.from_residual-in_err-price.result c.from_residual-in_err-price.ensures.1 in
+    let d = c.in_ok-demand.ensures.reads in
+    let u = c.in_err-price.ensures.reads in
+    rw (p.1, p.2) (record { reads = ap (price_to c.in_ok-demand.demand) u ∙ ap (pair_from c.args.start c.args.s.now) d; within = tt })
 
 pub returns : goal.returns
 unfolding pair
 returns c =
-    let d = c.in-ok-demand.ensures.reads in
-    let u = c.in-ok-price.ensures in
-    record { reads = ap (price_to c.in-ok-demand.demand) u.reads ∙ ap (pair_from c.args.start c.args.s.now) d; within = u.within }
+    let d = c.in_ok-demand.ensures.reads in
+    let u = c.in_ok-price.ensures in
+    record { reads = ap (price_to c.in_ok-demand.demand) u.reads ∙ ap (pair_from c.args.start c.args.s.now) d; within = u.within }

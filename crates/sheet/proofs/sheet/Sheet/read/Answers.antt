@@ -2,11 +2,11 @@ use Rattle.sheet.specs.Readers.{standing}
 use Rattle.sheet.proofs.Wholes.{of_fault, of_head}
 use Rattle.sheet.proofs.sheet.Sheet.read.Goals as goal
 
-pub invariant-of-result : goal.invariant-of-result
-invariant-of-result c = of_fault c.args.bytes.now c.in-Err.fault c.zero.result c.in-Err.ensures.reads c.zero.ensures
+pub invariant_of-result : goal.invariant_of-result
+invariant_of-result c = of_fault c.args.bytes.now c.in-Err.fault c.zero.result c.in-Err.ensures.reads c.zero.ensures
 
-pub invariant-of-result-2 : goal.invariant-of-result-2
-invariant-of-result-2 c =
+pub invariant_of-result-2 : goal.invariant_of-result-2
+invariant_of-result-2 c =
     let h = c.in-Ok.ensures in
     let t = c.tell-checked.ensures in
     of_head c.args.bytes.now c.in-Ok.head (standing c.after.result) c.tell-checked.new.slots c.tell-checked.result

@@ -6,14 +6,14 @@ use Rattle.std.proofs.lemmas.Int.{to_z-of_z, to_z_pos}
 use borrow.Author.Differences.{ints}
 use lib.Signed.{rem_z}
 
-pub overflow-add-result : goal.overflow-add-result
-overflow-add-result c =
+pub overflow_add-result : goal.overflow_add-result
+overflow_add-result c =
     let en = to_z-of_z w64 c.args.self.n (search rules) in
     let ed = to_z_pos w64 c.args.self.d (omega arith) in
     simp (en, ed) (omega (arith, ints))
 
-pub overflow-sub-result : goal.overflow-sub-result
-overflow-sub-result c =
+pub overflow_sub-result : goal.overflow_sub-result
+overflow_sub-result c =
     let en = to_z-of_z w64 c.args.self.n (search rules) in
     let ed = to_z_pos w64 c.args.self.d (omega arith) in
     simp (en, ed) (omega (arith, ints))

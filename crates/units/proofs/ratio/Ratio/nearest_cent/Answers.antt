@@ -4,15 +4,15 @@ use Rattle.units.specs.Rounding.{rounded}
 use Rattle.units.proofs.Rounds.{keeps_bounds, nearest_is, only_nearest, price_kept, rounded_neg}
 use Rattle.units.proofs.ratio.Ratio.nearest_cent.Goals as goal
 
-pub overflow-cast-result : goal.overflow-cast-result
-overflow-cast-result c =
+pub overflow_cast-result : goal.overflow_cast-result
+overflow_cast-result c =
     let b = price_kept c.args.self.n c.args.self.d c.args.self.divides c.args.self.bounded in
     omega (arith, ints)
 
-pub invariant-of-result : goal.invariant-of-result
-invariant-of-result c =
+pub invariant_of-result : goal.invariant_of-result
+invariant_of-result c =
     let b = price_kept c.args.self.n c.args.self.d c.args.self.divides c.args.self.bounded in
-    (omega (arith, ints), tt)
+    record { bounded = omega (arith, ints) }
 
 pub returns : goal.returns
 returns c =
