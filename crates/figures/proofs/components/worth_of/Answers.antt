@@ -5,8 +5,8 @@ use Rattle.figures.specs.Sides.{cents_of}
 use Rattle.figures.proofs.Products.{product_within}
 use Rattle.figures.proofs.components.worth_of.Goals as goal
 
-pub overflow-mul-result : goal.overflow-mul-result
-overflow-mul-result c =
+pub overflow_mul-result : goal.overflow_mul-result
+overflow_mul-result c =
     let h = product_within c.args.manual.volume 9_999_900 c.in-Some.price.cents c.in-Some.price.bounded in
     grind (arith, ints, to_z-of_z, to_z_pos)
 

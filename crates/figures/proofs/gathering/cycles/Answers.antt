@@ -14,7 +14,7 @@ noting-requires g c =
     let m = (g.S.PriceSource.means c.args.source.now).slots in
     let k = c.loop-slot.slot in
     record {
-      light = light m k c.in-ok-cycle.cycle (omega arith) c.in-ok-cycle.ensures;
+      light = light m k c.in_ok-cycle.cycle (omega arith) c.in_ok-cycle.ensures;
       room = net_room m k k c.loop-slot.tally (omega arith) c.loop-slot.invariant.0;
     }
 
@@ -23,7 +23,7 @@ counting-tally-requires g c =
     let m = (g.S.PriceSource.means c.args.source.now).slots in
     let k = c.loop-slot.slot in
     record {
-      light = light m k c.in-ok-cycle.cycle (omega arith) c.in-ok-cycle.ensures;
+      light = light m k c.in_ok-cycle.cycle (omega arith) c.in_ok-cycle.ensures;
       up = cycles_room Up m k c.noting.result.up (omega arith) (ap (λ t. t.up) c.noting.ensures ∙ c.loop-slot.invariant.0.ups);
       down = cycles_room Down m k c.noting.result.down (omega arith) (ap (λ t. t.down) c.noting.ensures ∙ c.loop-slot.invariant.0.downs);
     }
@@ -32,8 +32,8 @@ pub loop-slot-preserved : goal.loop-slot-preserved
 loop-slot-preserved g c =
     let m = (g.S.PriceSource.means c.args.source.now).slots in
     let k = c.loop-slot.slot in
-    let w = c.in-ok-cycle.cycle in
-    let is = c.in-ok-cycle.ensures in
+    let w = c.in_ok-cycle.cycle in
+    let is = c.in_ok-cycle.ensures in
     let n = subst (Tallied m (k + 1) k) (sym c.noting.ensures) (noted_tallied m k w is k c.loop-slot.tally c.loop-slot.invariant.0) in (
       subst (Tallied m (k + 1) (k + 1)) (sym c.counting-tally.ensures) (counted_tallied m k w is (k + 1) c.noting.result n),
       below_more _ _ c.loop-slot.invariant.1 (is_reported m k w is),

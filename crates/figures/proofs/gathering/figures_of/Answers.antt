@@ -7,18 +7,18 @@ pub noting-requires : goal.noting-requires
 noting-requires g c =
     let m = (g.S.PriceSource.means c.args.source.now).slots in
     record {
-      light = light m 225 c.in-ok-scheduled.scheduled (omega arith) c.in-ok-scheduled.ensures;
-      room = net_room m 225 225 c.in-ok-tally.tally (omega arith) c.in-ok-tally.ensures.0;
+      light = light m 225 c.in_ok-scheduled.scheduled (omega arith) c.in_ok-scheduled.ensures;
+      room = net_room m 225 225 c.in_ok-tally.tally (omega arith) c.in_ok-tally.ensures.0;
     }
 
 pub noting-requires-2 : goal.noting-requires-2
 noting-requires-2 g c =
     let m = g.S.PriceSource.means c.args.source.now in
     record {
-      light = light m.slots 226 c.in-ok-direct-up.direct-up (omega arith) c.in-ok-direct-up.ensures;
-      room = first_room m c.in-ok-tally.tally c.noting.result _ _
-          (record { scheduled = c.in-ok-scheduled.scheduled; direct_up = c.in-ok-direct-up.direct-up; direct_down = c.in-ok-direct-down.direct-down })
-          c.in-ok-tally.ensures c.in-ok-scheduled.ensures c.in-ok-direct-up.ensures c.in-ok-direct-down.ensures
+      light = light m.slots 226 c.in_ok-direct_up.direct_up (omega arith) c.in_ok-direct_up.ensures;
+      room = first_room m c.in_ok-tally.tally c.noting.result _ _
+          (record { scheduled = c.in_ok-scheduled.scheduled; direct_up = c.in_ok-direct_up.direct_up; direct_down = c.in_ok-direct_down.direct_down })
+          c.in_ok-tally.ensures c.in_ok-scheduled.ensures c.in_ok-direct_up.ensures c.in_ok-direct_down.ensures
           c.noting.ensures refl refl;
     }
 
@@ -26,33 +26,33 @@ pub noting-all-requires : goal.noting-all-requires
 noting-all-requires g c =
     let m = g.S.PriceSource.means c.args.source.now in
     record {
-      light = light m.slots 227 c.in-ok-direct-down.direct-down (omega arith) c.in-ok-direct-down.ensures;
-      room = second_room m c.in-ok-tally.tally c.noting.result c.noting-2.result _
-          (record { scheduled = c.in-ok-scheduled.scheduled; direct_up = c.in-ok-direct-up.direct-up; direct_down = c.in-ok-direct-down.direct-down })
-          c.in-ok-tally.ensures c.in-ok-scheduled.ensures c.in-ok-direct-up.ensures c.in-ok-direct-down.ensures
+      light = light m.slots 227 c.in_ok-direct_down.direct_down (omega arith) c.in_ok-direct_down.ensures;
+      room = second_room m c.in_ok-tally.tally c.noting.result c.noting-2.result _
+          (record { scheduled = c.in_ok-scheduled.scheduled; direct_up = c.in_ok-direct_up.direct_up; direct_down = c.in_ok-direct_down.direct_down })
+          c.in_ok-tally.ensures c.in_ok-scheduled.ensures c.in_ok-direct_up.ensures c.in_ok-direct_down.ensures
           c.noting.ensures c.noting-2.ensures refl;
     }
 
-pub invariant-of-result : goal.invariant-of-result
-invariant-of-result g c =
-    let m = g.S.PriceSource.means c.args.source.now in (
-      ∣ (
+pub invariant_of-result : goal.invariant_of-result
+invariant_of-result g c =
+    let m = g.S.PriceSource.means c.args.source.now in
+    record {
+      given = ∣ (
         m,
-        quarter_given m c.in-ok-tally.tally c.noting.result c.noting-2.result c.noting-all.result
-            (record { scheduled = c.in-ok-scheduled.scheduled; direct_up = c.in-ok-direct-up.direct-up; direct_down = c.in-ok-direct-down.direct-down })
-            c.in-ok-tally.ensures c.in-ok-scheduled.ensures c.in-ok-direct-up.ensures c.in-ok-direct-down.ensures
-            c.noting.ensures c.noting-2.ensures c.noting-all.ensures _ _ _ _ _ (search rules) c.zone-net.ensures c.avoided.ensures
+        quarter_given m c.in_ok-tally.tally c.noting.result c.noting-2.result c.noting-all.result
+            (record { scheduled = c.in_ok-scheduled.scheduled; direct_up = c.in_ok-direct_up.direct_up; direct_down = c.in_ok-direct_down.direct_down })
+            c.in_ok-tally.ensures c.in_ok-scheduled.ensures c.in_ok-direct_up.ensures c.in_ok-direct_down.ensures
+            c.noting.ensures c.noting-2.ensures c.noting-all.ensures _ _ _ _ _ (search rules) c.zone_net.ensures c.avoided.ensures
             c.side.ensures c.side-2.ensures,
-      ) ∣₁,
-      tt,
-    )
+      ) ∣₁;
+    }
 
 pub returns : goal.returns
 returns g c =
     let given =
-    quarter_given (g.S.PriceSource.means c.args.source.now) c.in-ok-tally.tally c.noting.result c.noting-2.result c.noting-all.result
-    (record { scheduled = c.in-ok-scheduled.scheduled; direct_up = c.in-ok-direct-up.direct-up; direct_down = c.in-ok-direct-down.direct-down })
-    c.in-ok-tally.ensures c.in-ok-scheduled.ensures c.in-ok-direct-up.ensures c.in-ok-direct-down.ensures
-    c.noting.ensures c.noting-2.ensures c.noting-all.ensures _ _ _ _ _ (search rules) c.zone-net.ensures c.avoided.ensures
+    quarter_given (g.S.PriceSource.means c.args.source.now) c.in_ok-tally.tally c.noting.result c.noting-2.result c.noting-all.result
+    (record { scheduled = c.in_ok-scheduled.scheduled; direct_up = c.in_ok-direct_up.direct_up; direct_down = c.in_ok-direct_down.direct_down })
+    c.in_ok-tally.ensures c.in_ok-scheduled.ensures c.in_ok-direct_up.ensures c.in_ok-direct_down.ensures
+    c.noting.ensures c.noting-2.ensures c.noting-all.ensures _ _ _ _ _ (search rules) c.zone_net.ensures c.avoided.ensures
     c.side.ensures c.side-2.ensures in
     record { value = given; counting = counts_shown (g.S.PriceSource.means c.args.source.now) _ given }

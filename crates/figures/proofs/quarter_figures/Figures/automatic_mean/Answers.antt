@@ -3,7 +3,7 @@ use Rattle.std.proofs.Common.{arith}
 use Rattle.figures.proofs.Facts.{sizes_in}
 use Rattle.figures.proofs.quarter_figures.Figures.automatic_mean.Goals as goal
 
-pub invariant-of-result : goal.invariant-of-result
-invariant-of-result c =
+pub invariant_of-result : goal.invariant_of-result
+invariant_of-result c =
     let s = sizes_in c.args.self.now c.args.direction c.side.result c.side.ensures in
-    (omega arith, (omega arith, (omega (arith, ints), tt)))
+    record { divides = omega arith; few = omega arith; bounded = omega (arith, ints) }

@@ -4,27 +4,27 @@ use Rattle.figures.specs.Components.{value, volume, weighted_mean}
 use Rattle.figures.proofs.Facts.{quotient_is, sizes_in}
 use Rattle.figures.proofs.quarter_figures.Figures.weighted_mean.Goals as goal
 
-pub overflow-add-volume : goal.overflow-add-volume
-overflow-add-volume c = let s = sizes_in c.args.self.now c.args.direction c.side-side.result c.side-side.ensures in omega arith
+pub overflow_add-volume : goal.overflow_add-volume
+overflow_add-volume c = let s = sizes_in c.args.self.now c.args.direction c.side-side.result c.side-side.ensures in omega arith
 
-pub overflow-add-volume-2 : goal.overflow-add-volume-2
-overflow-add-volume-2 c = let s = sizes_in c.args.self.now c.args.direction c.side-side.result c.side-side.ensures in omega arith
+pub overflow_add-volume-2 : goal.overflow_add-volume-2
+overflow_add-volume-2 c = let s = sizes_in c.args.self.now c.args.direction c.side-side.result c.side-side.ensures in omega arith
 
-pub overflow-add-volume-3 : goal.overflow-add-volume-3
-overflow-add-volume-3 c = let s = sizes_in c.args.self.now c.args.direction c.side-side.result c.side-side.ensures in omega arith
+pub overflow_add-volume-3 : goal.overflow_add-volume-3
+overflow_add-volume-3 c = let s = sizes_in c.args.self.now c.args.direction c.side-side.result c.side-side.ensures in omega arith
 
-pub worth-of-all-manual-requires : goal.worth-of-all-manual-requires
-worth-of-all-manual-requires c =
+pub worth_of_all-manual-requires : goal.worth_of_all-manual-requires
+worth_of_all-manual-requires c =
     let s = sizes_in c.args.self.now c.args.direction c.side-side.result c.side-side.ensures in
-    record { scheduled = s.scheduled; direct-up = s.above; direct-down = s.below }
+    record { scheduled = s.scheduled; direct_up = s.above; direct_down = s.below }
 
-pub overflow-add-result : goal.overflow-add-result
-overflow-add-result c = let s = sizes_in c.args.self.now c.args.direction c.side-side.result c.side-side.ensures in omega (arith, ints)
+pub overflow_add-result : goal.overflow_add-result
+overflow_add-result c = let s = sizes_in c.args.self.now c.args.direction c.side-side.result c.side-side.ensures in omega (arith, ints)
 
-pub invariant-of-result : goal.invariant-of-result
-invariant-of-result c =
+pub invariant_of-result : goal.invariant_of-result
+invariant_of-result c =
     let s = sizes_in c.args.self.now c.args.direction c.side-side.result c.side-side.ensures in
-    (omega arith, (omega arith, (omega (arith, ints), tt)))
+    record { divides = omega arith; few = omega arith; bounded = omega (arith, ints) }
 
 pub returns : goal.returns
 returns c =

@@ -12,8 +12,8 @@ counts w (suc n) k p o h e f = ap (λ q. activation w (suc n) q) f ∙ ap (λ j.
 pub returns-in-Some : goal.returns-in-Some
 returns-in-Some c =
     let d = demand_within c.args.direction c.args.self.reading in
-    let n : c.demand-in-size.result ≤ 10_000_000 = omega (arith, c.demand-in-size.ensures) in
+    let n : c.demand_in-size.result ≤ 10_000_000 = omega (arith, c.demand_in-size.ensures) in
     record {
-      value = counts c.args.self.weight c.demand-in-size.result _ c.in-Some.price _ (omega arith) c.demand-in-size.ensures c.in-Some.ensures;
+      value = counts c.args.self.weight c.demand_in-size.result _ c.in-Some.price _ (omega arith) c.demand_in-size.ensures c.in-Some.ensures;
       small = omega (arith, mul-le-mul c.requires n);
     }
