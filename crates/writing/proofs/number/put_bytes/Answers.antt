@@ -3,4 +3,4 @@ use Rattle.writing.proofs.WriteSteps.{put_over}
 use Rattle.writing.proofs.number.put_bytes.Goals as goal
 
 pub returns : goal.returns
-returns c = record { end = refl; bytes = put_over c.args.out.now c.args.bytes.now c.copy-from-slice.new.self c.args.at _ c.copy-from-slice.ensures.after (omega arith) }
+returns c = record { end = refl; bytes = put_over c.args.out.now c.args.bytes.now c.copy_from_slice.new.self c.args.at _ c.copy_from_slice.ensures.after (omega arith) }

@@ -10,8 +10,8 @@ loop-slot-init g c =
     let m = (g.S.PriceSource.means c.args.source.now).slots in
     (omega (arith, ap length (row_none m)), sym (row_start m c.args.out.now c.args.start))
 
-pub put-slot-at-requires : goal.put-slot-at-requires
-put-slot-at-requires g c =
+pub put_slot-at-requires : goal.put_slot-at-requires
+put_slot-at-requires g c =
     let m = (g.S.PriceSource.means c.args.source.now).slots in
     let h : c.loop-slot.slot < 228 = omega arith in
     let t = ap (λ s. length (slot_bytes s)) (c.told.ensures h) in
@@ -26,9 +26,9 @@ loop-slot-preserved g c =
     let a = row_bytes m c.loop-slot.slot in
     let b = slot_bytes (m c.loop-slot.slot) in
     let s = ap slot_bytes (c.told.ensures h) in
-    let x = then_over c.args.out.now c.loop-slot.out c.put-slot-at.new.out c.args.start c.loop-slot.at a b (omega (arith, r))
-    c.loop-slot.invariant.1 c.loop-slot.invariant.0 (c.put-slot-at.ensures.bytes ∙ ap (over c.loop-slot.out c.loop-slot.at) s) in
-    let y = then_end c.args.start c.loop-slot.at c.put-slot-at.result a b c.loop-slot.invariant.0 (c.put-slot-at.ensures.end ∙ ap (λ t. c.loop-slot.at + length t) s) in
+    let x = then_over c.args.out.now c.loop-slot.out c.put_slot-at.new.out c.args.start c.loop-slot.at a b (omega (arith, r))
+    c.loop-slot.invariant.1 c.loop-slot.invariant.0 (c.put_slot-at.ensures.bytes ∙ ap (over c.loop-slot.out c.loop-slot.at) s) in
+    let y = then_end c.args.start c.loop-slot.at c.put_slot-at.result a b c.loop-slot.invariant.0 (c.put_slot-at.ensures.end ∙ ap (λ t. c.loop-slot.at + length t) s) in
     (y ∙ ap (λ t. c.args.start + length t) (sym p), x ∙ ap (over c.args.out.now c.args.start) (sym p))
 
 pub returns : goal.returns

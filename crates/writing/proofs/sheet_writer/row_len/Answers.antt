@@ -10,8 +10,8 @@ pub loop-slot-preserved : goal.loop-slot-preserved
 loop-slot-preserved g c =
     let m = (g.S.PriceSource.means c.args.source.now).slots in
     let r = row_more m c.loop-slot.slot in
-    let t = c.slot-len-len.ensures.value ∙ ap (λ s. length (slot_bytes s)) (c.told.ensures (omega arith)) in
-    (omega (arith, r, t, c.loop-slot.invariant.0), omega (arith, c.slot-len-len.ensures.few, c.loop-slot.invariant.1))
+    let t = c.slot_len-len.ensures.value ∙ ap (λ s. length (slot_bytes s)) (c.told.ensures (omega arith)) in
+    (omega (arith, r, t, c.loop-slot.invariant.0), omega (arith, c.slot_len-len.ensures.few, c.loop-slot.invariant.1))
 
 pub returns : goal.returns
 returns g c =

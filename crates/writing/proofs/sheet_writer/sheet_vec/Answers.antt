@@ -8,16 +8,16 @@ use Rattle.writing.proofs.sheet_writer.sheet_vec.Goals as goal
 pub returns : goal.returns
 returns g c =
     let m = g.S.PriceSource.means c.args.source.now in
-    let n : c.in-ok-sheet.sheet.len ≡ length (sheet_bytes m) = c.in-ok-sheet.ensures.len ∙ c.sheet-len.ensures in
-    let k : length c.as-mut-slice.result.now ≡ length (sheet_bytes m) = c.as-mut-slice.ensures.len ∙ n in
+    let n : c.in_ok-sheet.sheet.len ≡ length (sheet_bytes m) = c.in_ok-sheet.ensures.len ∙ c.sheet_len.ensures in
+    let k : length c.as_mut_slice.result.now ≡ length (sheet_bytes m) = c.as_mut_slice.ensures.len ∙ n in
     record {
-      made = vec_written (sheet_bytes m) c.as-mut-slice.result.now c.write-sheet.new.out _ c.in-ok-sheet.sheet.len k c.write-sheet.ensures.leaves n;
+      made = vec_written (sheet_bytes m) c.as_mut_slice.result.now c.write_sheet.new.out _ c.in_ok-sheet.sheet.len k c.write_sheet.ensures.leaves n;
       tells_back = tells_back m;
       same_bytes = same_bytes m;
     }
 
-pub returns-in-err-sheet : goal.returns-in-err-sheet
-returns-in-err-sheet g c =
-    let p = err_from_is_err_and c.from-residual.result c.from-residual.ensures.1 in
+pub returns-in_err-sheet : goal.returns-in_err-sheet
+returns-in_err-sheet g c =
+    let p = err_from_is_err_and c.from_residual.result c.from_residual.ensures.1 in
     let m = g.S.PriceSource.means c.args.source.now in
     rw p.1 (record { made = tt; tells_back = tells_back m; same_bytes = same_bytes m })

@@ -4,15 +4,15 @@ use Rattle.writing.specs.Writes.{over}
 use Rattle.writing.proofs.Numbers.{numbered, over_nothing}
 use Rattle.writing.proofs.slot_writer.put_price.Goals as goal
 
-pub put-groups-requires : goal.put-groups-requires
-put-groups-requires c =
-    let n : groups_of c.fold-price.result ≡ price_bytes c.args.price = numbered c.in-Some.price.cents _ c.fold-price.ensures.value ∙ ap price_bytes (sym c.in-Some.is) in
-    record { few = c.fold-price.ensures.few; room = subst (λ t. c.args.at + length t ≤ length c.args.out.now) (sym n) c.requires }
+pub put_groups-requires : goal.put_groups-requires
+put_groups-requires c =
+    let n : groups_of c.fold_price.result ≡ price_bytes c.args.price = numbered c.in-Some.price.cents _ c.fold_price.ensures.value ∙ ap price_bytes (sym c.in-Some.is) in
+    record { few = c.fold_price.ensures.few; room = subst (λ t. c.args.at + length t ≤ length c.args.out.now) (sym n) c.requires }
 
 pub returns-in-Some : goal.returns-in-Some
 returns-in-Some c =
-    let n : groups_of c.fold-price.result ≡ price_bytes c.args.price = numbered c.in-Some.price.cents _ c.fold-price.ensures.value ∙ ap price_bytes (sym c.in-Some.is) in
-    record { end = c.put-groups.ensures.end ∙ ap (λ t. c.args.at + length t) n; bytes = c.put-groups.ensures.bytes ∙ ap (over c.args.out.now c.args.at) n }
+    let n : groups_of c.fold_price.result ≡ price_bytes c.args.price = numbered c.in-Some.price.cents _ c.fold_price.ensures.value ∙ ap price_bytes (sym c.in-Some.is) in
+    record { end = c.put_groups.ensures.end ∙ ap (λ t. c.args.at + length t) n; bytes = c.put_groups.ensures.bytes ∙ ap (over c.args.out.now c.args.at) n }
 
 pub returns-in-None : goal.returns-in-None
 returns-in-None c =

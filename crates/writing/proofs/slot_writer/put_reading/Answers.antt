@@ -11,14 +11,14 @@ sizes r =
     let l : length (number_bytes r.demand.kw ++ (price_bytes r.up ++ price_bytes r.down)) ≡ length (number_bytes r.demand.kw) + (length (price_bytes r.up) + length (price_bytes r.down)) = simp length-append in
     omega (arith, l)
 
-pub put-demand-up-requires : goal.put-demand-up-requires
-put-demand-up-requires c = omega (arith, sizes c.args.reading, c.put-bytes-demand.ensures.end)
+pub put_demand-up-requires : goal.put_demand-up-requires
+put_demand-up-requires c = omega (arith, sizes c.args.reading, c.put_bytes-demand.ensures.end)
 
-pub put-price-down-requires : goal.put-price-down-requires
-put-price-down-requires c = omega (arith, sizes c.args.reading, c.put-bytes-demand.ensures.end, c.put-demand-up.ensures.end)
+pub put_price-down-requires : goal.put_price-down-requires
+put_price-down-requires c = omega (arith, sizes c.args.reading, c.put_bytes-demand.ensures.end, c.put_demand-up.ensures.end)
 
-pub put-price-requires : goal.put-price-requires
-put-price-requires c = omega (arith, sizes c.args.reading, c.put-bytes-demand.ensures.end, c.put-demand-up.ensures.end, c.put-price-down.ensures.end)
+pub put_price-requires : goal.put_price-requires
+put_price-requires c = omega (arith, sizes c.args.reading, c.put_bytes-demand.ensures.end, c.put_demand-up.ensures.end, c.put_price-down.ensures.end)
 
 -- four writes, one after another, are one
 all_written : (o a b e f : List ℕ) (at i j k l lead w : ℕ) (d u v : List ℕ) → at + length (lead ∷ (d ++ (u ++ v))) ≤ length o → w ≡ lead
@@ -42,10 +42,10 @@ all_written o a b e f at i j k l lead w d u v room same x1 y1 x2 y2 x3 y3 x4 y4 
 pub returns : goal.returns
 returns c =
     let r = c.args.reading in
-    let w = all_written c.args.out.now c.put-bytes-demand.new.out c.put-demand-up.new.out c.put-price-down.new.out c.put-price.new.out
-    c.args.at c.put-bytes-demand.result c.put-demand-up.result c.put-price-down.result c.put-price.result
-    (by_prices r.up r.down) c.lead-of.result (number_bytes r.demand.kw) (price_bytes r.up) (price_bytes r.down)
-    c.requires c.lead-of.ensures c.put-bytes-demand.ensures.bytes c.put-bytes-demand.ensures.end
-    c.put-demand-up.ensures.bytes c.put-demand-up.ensures.end c.put-price-down.ensures.bytes c.put-price-down.ensures.end
-    c.put-price.ensures.bytes c.put-price.ensures.end in
+    let w = all_written c.args.out.now c.put_bytes-demand.new.out c.put_demand-up.new.out c.put_price-down.new.out c.put_price.new.out
+    c.args.at c.put_bytes-demand.result c.put_demand-up.result c.put_price-down.result c.put_price.result
+    (by_prices r.up r.down) c.lead_of.result (number_bytes r.demand.kw) (price_bytes r.up) (price_bytes r.down)
+    c.requires c.lead_of.ensures c.put_bytes-demand.ensures.bytes c.put_bytes-demand.ensures.end
+    c.put_demand-up.ensures.bytes c.put_demand-up.ensures.end c.put_price-down.ensures.bytes c.put_price-down.ensures.end
+    c.put_price.ensures.bytes c.put_price.ensures.end in
     record { end = w.0; bytes = w.1 }

@@ -9,4 +9,4 @@ returns-in-Reported c =
     let w = price_bytes c.in-Reported.reading.down in
     let l : length (d ++ (u ++ w)) ≡ length d + (length u + length w) = simp length-append in
     let i = ap (λ s. length (slot_bytes s)) c.in-Reported.is in
-    record { value = omega (arith, l, i, c.demand-len.ensures.value, c.price-len.ensures.value, c.price-len-in-Reported.ensures.value); few = omega (arith, c.demand-len.ensures.few, c.price-len.ensures.few, c.price-len-in-Reported.ensures.few) }
+    record { value = omega (arith, l, i, c.demand_len.ensures.value, c.price_len.ensures.value, c.price_len-in-Reported.ensures.value); few = omega (arith, c.demand_len.ensures.few, c.price_len.ensures.few, c.price_len-in-Reported.ensures.few) }
