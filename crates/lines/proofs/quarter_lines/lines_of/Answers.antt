@@ -6,5 +6,5 @@ use Rattle.lines.proofs.quarter_lines.lines_of.Goals as goal
 pub returns-in-Ok : goal.returns-in-Ok
 returns-in-Ok c =
     subst (λ s. Printed s (five_text c.quoted.result)) c.read-sheet.ensures
-    (subst (λ r. PrintedBy r (sheet_meaning c.read-sheet.result.bytes.now) (five_text c.quoted.result)) c.in-default.ensures.first
+    (subst (λ r. PrintedBy r (sheet_meaning c.read-sheet.result.bytes.now) (five_text c.quoted.result)) c.in_default.ensures.first
     (inr (record { figures = c.in-Ok.figures; gives = c.in-Ok.ensures.value; prints = c.quoted.ensures })))
