@@ -2,7 +2,7 @@
 use Rattle.std.proofs.Common.{◌≡◌, ℕ, ◌+◌, ◌<◌, true, eqb, ltb, List, [], ◌∷◌, ◌++◌, length, get_or, drop, Some, None, Ok, Err, Option, Result, sym, refl, ap, ◌∙◌, append_assoc, add-zero, arith, length-append, length-drop}
 use Rattle.std.proofs.lemmas.List.{drop_at, drop-drop, drop_more, get_or-drop}
 use Rattle.std.proofs.lemmas.Bool.{cond_both, cond-true, eqb-true, lt-ltb, ltb-true}
-use Rattle.std.specs.List.{AllByRecursion as All}
+use Rattle.std.specs.List.{AllByRecursion}
 use Rattle.units.specs.declared.price.Price.{Price}
 use Rattle.units.specs.declared.zone_net.ZoneNet.{ZoneNet}
 use Rattle.units.specs.Quantities.{price_of, zone_net_of}
@@ -79,7 +79,7 @@ abbrev pub HeadedAs : List ℕ → Headed → Type 0
 HeadedAs s (Ok h) = s ≡ bytes_of h.zone_net h.avoided ++ drop h.end s
 HeadedAs s (Err f) = Unit {0}
 
-module _ (s : List ℕ) (b : All (λ x. x < 256) s) where
+module _ (s : List ℕ) (b : AllByRecursion (λ x. x < 256) s) where
   price_valued : (at : ℕ) → drop at s ≡ 1 ∷ drop (at + 1) s → (x : Number Price) → quantity price_of front s (at + 1) ≡ x → Valued s at (price_after x)
   price_valued at h (Ok g) e = h ∙ ap (λ t. 1 ∷ t) (price_form front s (at + 1) b g e)
   price_valued at h (Err f) e = tt

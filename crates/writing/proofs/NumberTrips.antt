@@ -3,7 +3,7 @@ use Rattle.std.proofs.Common.{◌≡◌, ℕ, ◌+◌, ◌^◌, ◌<◌, ◌≤�
 use Rattle.std.proofs.ByRecursion.{All-drop}
 use Rattle.std.proofs.lemmas.List.{drop-drop}
 use Rattle.std.proofs.lemmas.Bool.Decides.{nat_tests}
-use Rattle.std.specs.List.{AllByRecursion as All}
+use Rattle.std.specs.List.{AllByRecursion}
 use Rattle.units.proofs.Made.{demand_made, price_made, zone_net_made}
 use Rattle.units.specs.declared.bounds.OutOfBounds.{OutOfBounds}
 use Rattle.units.specs.declared.bounds.OutOfBounds.TheVariants as is
@@ -21,7 +21,7 @@ groups_back : (u : ℕ) (rest : List ℕ) → u < 2 ^ 28 → ◌≡◌ {A = Grou
 groups_back u rest h = grind (arith, nat_tests)
 
 -- and stood in the form that is written
-groups_form : (s : List ℕ) (u n : ℕ) → All (λ b. b < 256) s → ◌≡◌ {A = Groups} (groups s) (Ok (u, n)) → s ≡ groups_of u ++ drop n s
+groups_form : (s : List ℕ) (u n : ℕ) → AllByRecursion (λ b. b < 256) s → ◌≡◌ {A = Groups} (groups s) (Ok (u, n)) → s ≡ groups_of u ++ drop n s
 groups_form [] u n b e = grind (arith, nat_tests)
 groups_form (x ∷ []) u n b e = grind (arith, nat_tests)
 groups_form (x ∷ y ∷ []) u n b e = grind (arith, nat_tests)
@@ -51,7 +51,7 @@ module _ {Q : Type 0} (made : ℤ → Result Q OutOfBounds) (p : Spot) (s : List
       ∙ ap (bounded (ahead p from) (from + length (number_bytes z))) (sym m)))
 
   -- a quantity that was read is made of the number that stood there
-  module _ (val : Q → ℤ) (of : (z : ℤ) (q : Q) → made z ≡ Ok q → z ≡ val q) (b : All (λ x. x < 256) s) (q : Q) (end : ℕ) where
+  module _ (val : Q → ℤ) (of : (z : ℤ) (q : Q) → made z ≡ Ok q → z ≡ val q) (b : AllByRecursion (λ x. x < 256) s) (q : Q) (end : ℕ) where
     within : (z : ℤ) (n : ℕ) (r : Result Q OutOfBounds) → made z ≡ r → bounded (ahead p from) (from + n) r ≡ Ok (q, end) → (z ≡ val q) × (from + n ≡ end)
     within z n (Ok x) m e =
         let x-is : x ≡ q = grind arith in
@@ -90,7 +90,7 @@ module _ (p : Spot) (s : List ℕ) (from : ℕ) where
   pub net_back : (z : ZoneNet) (rest : List ℕ) → drop from s ≡ number_bytes z.kw ++ rest → quantity zone_net_of p s from ≡ Ok (z, from + length (number_bytes z.kw))
   net_back z rest e = number_back zone_net_of p s from z z.kw rest e z.bounded (zone_net_made z.kw z refl)
 
-  module _ (b : All (λ x. x < 256) s) where
+  module _ (b : AllByRecursion (λ x. x < 256) s) where
     pub demand_form : (g : Demand × ℕ) → quantity demand_of p s from ≡ Ok g → drop from s ≡ number_bytes g.0.kw ++ drop g.1 s
     demand_form g = number_form demand_of p s from (λ d. d.kw) (λ z. value_of (leb (nat_abs z) 10_000_000) _ is.Demand (λ d. d.kw) z (λ h. refl)) b g.0 g.1
 

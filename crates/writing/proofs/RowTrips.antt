@@ -3,7 +3,7 @@ use Rattle.std.proofs.Common.{◌≡◌, ℕ, zero, suc, ◌+◌, ◌<◌, List,
 use lib.ListN.{length-replicate}
 use Rattle.std.proofs.ByRecursion.{All-drop}
 use Rattle.std.proofs.lemmas.List.{drop_at, drop-drop, same_lists, get_or_default}
-use Rattle.std.specs.List.{flat_map, AllByRecursion as All}
+use Rattle.std.specs.List.{flat_map, AllByRecursion}
 use Rattle.source.specs.declared.slot.Slot.{Slot}
 use Rattle.source.specs.declared.slot.Slot.TheVariants.{Unreported}
 use Rattle.sheet.specs.declared.fault.RecordFault.{RecordFault}
@@ -88,7 +88,7 @@ step_stood : (k : ℕ) (s : List ℕ) (at : ℕ) (t : Told) (rest : ℕ → Row)
 step_stood k s at (Ok g) rest h i = stood_more s at g.1 g.0 (rest g.1).0 (rest g.1).1 h (i g.1)
 step_stood k s at (Err f) rest h i = tt
 
-pub row_stood : (k : ℕ) (s : List ℕ) (i at : ℕ) → All (λ x. x < 256) s → Stood s at (row k s i at).0 (row k s i at).1
+pub row_stood : (k : ℕ) (s : List ℕ) (i at : ℕ) → AllByRecursion (λ x. x < 256) s → Stood s at (row k s i at).0 (row k s i at).1
 unfolding row
 row_stood zero s i at b = refl
 row_stood (suc k) s i at b =

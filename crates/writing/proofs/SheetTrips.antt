@@ -3,7 +3,7 @@ use Rattle.std.proofs.Common.{◌≡◌, ℕ, ◌+◌, ◌<◌, ◌≤◌, ltb, 
 use Rattle.std.proofs.lemmas.List.{drop_at}
 use Rattle.std.proofs.lemmas.Bool.{cond-false, le-ltb}
 use Rattle.std.proofs.lemmas.Bool.Decides.{nat_tests}
-use Rattle.std.specs.List.{flat_map, AllByRecursion as All}
+use Rattle.std.specs.List.{flat_map, AllByRecursion}
 use Rattle.units.specs.declared.price.Price.{Price}
 use Rattle.units.specs.declared.zone_net.ZoneNet.{ZoneNet}
 use Rattle.source.specs.declared.slot.Slot.{Slot}
@@ -78,7 +78,7 @@ module _ (m : Meaning) where
   }
 
 -- a sheet b without a fault, and a source that means what it tells
-module _ (m : Meaning) (b : List ℕ) (bytes : All (λ x. x < 256) b) (alike : Alike (sheet_meaning b) m) where
+module _ (m : Meaning) (b : List ℕ) (bytes : AllByRecursion (λ x. x < 256) b) (alike : Alike (sheet_meaning b) m) where
   -- with its head, whose slots end at the sheet's end
   module _ (net : ZoneNet) (avoided : Option Price) (at : ℕ) (e : head_of b ≡ head_with net avoided at) where
     head_same : bytes_of net avoided ≡ head_bytes m

@@ -2,7 +2,7 @@
 use Rattle.std.proofs.Common.{◌≡◌, ℕ, suc, ◌+◌, ◌<◌, true, eqb, List, [], ◌∷◌, ◌++◌, length, drop, Some, None, Ok, Err, Option, Result, sym, refl, ap, ◌∙◌, subst, append_assoc, append-nil, arith, length-append}
 use Rattle.std.proofs.lemmas.List.{drop_at}
 use Rattle.std.proofs.lemmas.Bool.{cond_both, eqb-true}
-use Rattle.std.specs.List.{AllByRecursion as All}
+use Rattle.std.specs.List.{AllByRecursion}
 use Rattle.units.specs.declared.demand.Demand.{Demand}
 use Rattle.units.specs.declared.price.Price.{Price}
 use Rattle.units.specs.Quantities.{demand_of, price_of}
@@ -95,7 +95,7 @@ last_none a c t = sym (simp (append-nil, append_assoc))
 all_three : (a b c t : List ℕ) → a ++ (b ++ (c ++ t)) ≡ (a ++ (b ++ c)) ++ t
 all_three a b c t = sym (simp append_assoc)
 
-module _ (q : Spot) (s : List ℕ) (b : All (λ x. x < 256) s) where
+module _ (q : Spot) (s : List ℕ) (b : AllByRecursion (λ x. x < 256) s) where
   price_paired : (g : Demand × ℕ) → s ≡ number_bytes g.0.kw ++ drop g.1 s → (x : Number Price) → quantity price_of q s g.1 ≡ x → Paired s (price_to g.0 x)
   price_paired g h (Ok k) e = h ∙ ap (λ t. number_bytes g.0.kw ++ t) (price_form q s g.1 b k e)
   price_paired g h (Err f) e = tt
@@ -132,6 +132,6 @@ module _ (q : Spot) (s : List ℕ) (b : All (λ x. x < 256) s) where
       reported_formed lead g.0 (Some g.1) (Some k.0) k.1 (is 4 e) (paired g h ∙ (ap (λ t. number_bytes g.0.kw ++ (number_bytes g.1.cents ++ t)) (price_form q s g.2 b k i) ∙ all_three (number_bytes g.0.kw) (number_bytes g.1.cents) (number_bytes k.0.cents) (drop k.1 s)))))) (λ _. tt)))))
 
 -- a slot that was read stood there in the form that is written
-pub slot_formed : (p : Spot) (s : List ℕ) → All (λ x. x < 256) s → Formed s (slot_told p s)
+pub slot_formed : (p : Spot) (s : List ℕ) → AllByRecursion (λ x. x < 256) s → Formed s (slot_told p s)
 slot_formed p [] b = tt
 slot_formed p (lead ∷ s) b = lead_formed (ahead p 1) s b.1 p lead

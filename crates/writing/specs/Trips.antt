@@ -1,6 +1,6 @@
 -- Writing and reading undo each other.
 use Rattle.std.specs.Prelude.{◌≡◌, ℕ, ◌<◌, List, Ok}
-use Rattle.std.specs.List.{AllByRecursion as All}
+use Rattle.std.specs.List.{AllByRecursion}
 use Rattle.sheet.specs.Sheets.{first_fault, sheet_meaning}
 use Rattle.source.specs.Meanings.{Meaning}
 use Rattle.writing.specs.Bytes.{sheet_bytes}
@@ -18,4 +18,4 @@ pub record TellsBack (m : Meaning) : Type 0 where
 
 -- an accepted sheet, rewritten from a source that means what it tells, has the same bytes
 abbrev pub SameBytes : Meaning → Type 0
-SameBytes m = (b : List ℕ) → All (λ x. x < 256) b → first_fault b ≡ Ok tt → Alike (sheet_meaning b) m → sheet_bytes m ≡ b
+SameBytes m = (b : List ℕ) → AllByRecursion (λ x. x < 256) b → first_fault b ≡ Ok tt → Alike (sheet_meaning b) m → sheet_bytes m ≡ b

@@ -26,30 +26,30 @@ returns-in-Closed c =
     let s : is_closed (quarter_at b p) ≡ true = ap is_closed (sym e ∙ c.in-Closed.is) in
     whole _ _ _ (record { lawful = tt; answered = meter_closed (in_book b) p c.args.party (values_of c.args.values.now) c.if-period-self.false c.if-party-self.false s; changes = refl })
 
-pub returns-in-err-imbalance : goal.returns-in-err-imbalance
-returns-in-err-imbalance c =
+pub returns-in_err-imbalance : goal.returns-in_err-imbalance
+returns-in_err-imbalance c =
     let b = c.args.self.now in
     let p = c.args.period in
     let e = read_quarter b p c.index.result.now c.if-period-self.false c.index.ensures in
-    let s : is_closed (quarter_at b p) ≡ false = ap is_closed (sym e) ∙ not_closed c.index.result.now c.in-default.not-Closed in
-    let w = err_from_is_err_and c.from-residual.result c.from-residual.ensures.1 in
-    let f = c.in-err-imbalance.field-0.0 in
-    rw (w.1, w.2) (whole _ _ _ (record { lawful = tt; answered = meter_answered (in_book b) p c.args.party (values_of c.args.values.now) (Err f) (Err (Metering f)) c.if-period-self.false c.if-party-self.false s c.in-err-imbalance.ensures refl; changes = refl }))
+    let s : is_closed (quarter_at b p) ≡ false = ap is_closed (sym e) ∙ not_closed c.index.result.now c.in_default.not-Closed in
+    let w = err_from_is_err_and c.from_residual.result c.from_residual.ensures.1 in
+    let f = c.in_err-imbalance.field-0.0 in
+    rw (w.1, w.2) (whole _ _ _ (record { lawful = tt; answered = meter_answered (in_book b) p c.args.party (values_of c.args.values.now) (Err f) (Err (Metering f)) c.if-period-self.false c.if-party-self.false s c.in_err-imbalance.ensures refl; changes = refl }))
 
-pub index-mut-requires : goal.index-mut-requires
-index-mut-requires c = place_within c.args.self.now c.args.period c.args.party c.if-period-self.false c.if-party-self.false
+pub index_mut-requires : goal.index_mut-requires
+index_mut-requires c = place_within c.args.self.now c.args.period c.args.party c.if-period-self.false c.if-party-self.false
 
 pub returns : goal.returns
 returns c =
     let b = c.args.self.now in
     let p = c.args.period in
     let q = c.args.party in
-    let i = c.in-ok-imbalance.imbalance in
+    let i = c.in_ok-imbalance.imbalance in
     let v = values_of c.args.values.now in
     let e = read_quarter b p c.index.result.now c.if-period-self.false c.index.ensures in
-    let s : is_closed (quarter_at b p) ≡ false = ap is_closed (sym e) ∙ not_closed c.index.result.now c.in-default.not-Closed in
+    let s : is_closed (quarter_at b p) ≡ false = ap is_closed (sym e) ∙ not_closed c.index.result.now c.in_default.not-Closed in
     whole (metered p q v (Ok i)) b _ (record {
       lawful = tt;
-      answered = meter_answered (in_book b) p q v (Ok i) (Ok i) c.if-period-self.false c.if-party-self.false s c.in-ok-imbalance.ensures refl;
+      answered = meter_answered (in_book b) p q v (Ok i) (Ok i) c.if-period-self.false c.if-party-self.false s c.in_ok-imbalance.ensures refl;
       changes = record { quarters = refl; volumes = refl; paid = refl; periods = refl; parties = refl };
     })

@@ -14,5 +14,5 @@ returns c =
     let e = read_paid b q c.index.result.now c.if-party-self.false c.index.ensures in
     record {
       answers = ap Ok e ∙ ap (λ o. unless_fault o (paid_to b q)) (sym (party_within (in_book b) q c.if-party-self.false));
-      as-the-run-says = λ h r. ap (λ (x : Amount). x.cents) e ∙ (kept r).payments q c.if-party-self.false;
+      as_the_run_says = λ h r. ap (λ (x : Amount). x.cents) e ∙ (kept r).payments q c.if-party-self.false;
     }

@@ -23,6 +23,6 @@ returns g c =
     whole (priced c.args.period m (rules g) c.turn.result) c.args.self.now c.turn.new.self
     (record {
       lawful = lawful g;
-      answered = price_answered (in_book c.args.self.now) c.args.period m (rules g) c.turn.result c.quote-source-answer.result c.if-period-self.false c.quote-source-answer.ensures.quoted c.turn.ensures.answers;
+      answered = price_answered (in_book c.args.self.now) c.args.period m (rules g) c.turn.result c.quote_source-answer.result c.if-period-self.false c.quote_source-answer.ensures.value c.turn.ensures.answers;
       changes = c.turn.ensures.changes;
     })

@@ -13,5 +13,5 @@ returns c =
     let e = read_quarter b p c.index.result.now c.if-period-self.false c.index.ensures in
     record {
       answers = ap Ok e ∙ ap (λ o. unless_fault o (quarter_at b p)) (sym (period_within (in_book b) p c.if-period-self.false));
-      as-the-run-says = λ h r. e ∙ (kept r).standings p;
+      as_the_run_says = λ h r. e ∙ (kept r).standings p;
     }

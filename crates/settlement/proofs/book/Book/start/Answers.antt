@@ -13,14 +13,12 @@ use Rattle.settlement.proofs.book.Book.start.Goals as goal
 unpaid : (xs : List Amount) (n q m : ℕ) → xs ≡ replicate n nothing → nat_abs (cents_at xs q) ≤ m
 unpaid xs n q m e = rw e (subst (λ (x : Amount). nat_abs x.cents ≤ m) (sym (all_same n q nothing)) (omega arith))
 
-pub invariant-of-result : goal.invariant-of-result
-invariant-of-result c = (
-  (omega arith, omega arith, omega arith, omega arith),
-  (
-    (c.in-ok-quarters.ensures.len, c.in-ok-volumes.ensures.len, c.in-ok-paid.ensures.len),
-    ((λ q l. unpaid _ c.args.parties q 15_000_000_000_000 (c.in-ok-paid.ensures.items-if-clones-equal (λ y h. h))), tt),
-  ),
-)
+pub invariant_of-result : goal.invariant_of-result
+invariant_of-result c = record {
+  counts = (omega arith, omega arith, omega arith, omega arith);
+  sizes = (c.in_ok-quarters.ensures.len, c.in_ok-volumes.ensures.len, c.in_ok-paid.ensures.len);
+  payments = λ q l. unpaid _ c.args.parties q 15_000_000_000_000 (c.in_ok-paid.ensures.items_if_clones_equal (λ y h. h));
+}
 
 counts : (n m : ℕ) → 1 ≤ n → n ≤ 100 → 1 ≤ m → m ≤ 32 → count_fault n m ≡ None
 counts n m a b d e =
@@ -30,8 +28,8 @@ counts n m a b d e =
 pub returns : goal.returns
 returns c =
     let f : Fresh _ = record {
-      blank = c.in-ok-quarters.ensures.items-if-clones-equal (λ y h. h);
-      unmetered = c.in-ok-volumes.ensures.items-if-clones-equal (λ y h. h) ∙ ap (replicate (c.args.periods * c.args.parties)) c.zero.ensures;
-      unpaid = c.in-ok-paid.ensures.items-if-clones-equal (λ y h. h);
+      blank = c.in_ok-quarters.ensures.items_if_clones_equal (λ y h. h);
+      unmetered = c.in_ok-volumes.ensures.items_if_clones_equal (λ y h. h) ∙ ap (replicate (c.args.periods * c.args.parties)) c.zero.ensures;
+      unpaid = c.in_ok-paid.ensures.items_if_clones_equal (λ y h. h);
     } in
     record { counts = counts c.args.periods c.args.parties (omega arith) (omega arith) (omega arith) (omega arith); periods = refl; parties = refl; fresh = f; run = begun _ f; sound = fresh_sound _ f }

@@ -21,5 +21,5 @@ returns c =
     let e = read_volume b p q c.index.result.now l m c.index.ensures in
     record {
       answers = ap Ok e ∙ sym (ap (λ o. unless_fault (or_next o (party_fault (in_book b) q)) (imbalance_at b p q)) (period_within (in_book b) p l) ∙ ap (λ o. unless_fault o (imbalance_at b p q)) (party_within (in_book b) q m));
-      as-the-run-says = λ h r. ap (λ (x : Imbalance). x.kwh) e ∙ (kept r).volumes p q l m;
+      as_the_run_says = λ h r. ap (λ (x : Imbalance). x.kwh) e ∙ (kept r).volumes p q l m;
     }

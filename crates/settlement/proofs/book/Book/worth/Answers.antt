@@ -37,23 +37,23 @@ fits_term c = omega (arith, ints, small c)
 fits_sum : (c : goal.After-cents) → SFits w64 (c.loop-period.sum +ℤ term c)
 fits_sum c = sum_fits c.loop-period.sum (term c) c.loop-period.period (sum_so_far c) (omega arith) (small c)
 
-pub overflow-mul-sum : goal.overflow-mul-sum
-overflow-mul-sum c =
-    let fv : SFits w64 c.kwh.result = record { sfits = c.kwh.type-inv } in
-    let fx : SFits w64 c.cents.result = record { sfits = c.cents.type-inv } in
+pub overflow_mul-sum : goal.overflow_mul-sum
+overflow_mul-sum c =
+    let fv : SFits w64 c.kwh.result = record { sfits = c.kwh.type_inv } in
+    let fx : SFits w64 c.cents.result = record { sfits = c.cents.type_inv } in
     simp to_z-of_z (fits_term c)
 
-pub overflow-add-sum : goal.overflow-add-sum
-overflow-add-sum c =
-    let fv : SFits w64 c.kwh.result = record { sfits = c.kwh.type-inv } in
-    let fx : SFits w64 c.cents.result = record { sfits = c.cents.type-inv } in
+pub overflow_add-sum : goal.overflow_add-sum
+overflow_add-sum c =
+    let fv : SFits w64 c.kwh.result = record { sfits = c.kwh.type_inv } in
+    let fx : SFits w64 c.cents.result = record { sfits = c.cents.type_inv } in
     let ft = fits_term c in
     simp (to_z-of_z, c.loop-period.sum-is) (fits_sum c)
 
 pub loop-period-preserved : goal.loop-period-preserved
 loop-period-preserved c =
-    let fv : SFits w64 c.kwh.result = record { sfits = c.kwh.type-inv } in
-    let fx : SFits w64 c.cents.result = record { sfits = c.cents.type-inv } in
+    let fv : SFits w64 c.kwh.result = record { sfits = c.kwh.type_inv } in
+    let fx : SFits w64 c.cents.result = record { sfits = c.cents.type_inv } in
     let ft = fits_term c in
     let fs = fits_sum c in (
       simp (to_z-of_z, c.loop-period.sum-is) (sum_more c.loop-period.sum (term c) c.loop-period.period
