@@ -19,7 +19,7 @@ fn stored_numbers(rt: HostRuntime) -> Result<(), Fail> {
     put_number(&mut out, 0)?;
     put_number(&mut out, -1)?;
     put_number(&mut out, 64)?;
-    assert!(rt; out.as_slice() == &[0x00, 0x01, 0x80, 0x01]);
+    assert!(rt; out.as_slice() == [0x00, 0x01, 0x80, 0x01].as_slice());
     let minus_one = zeros(rt.alloc(), b"ISP1\x01", 229)?;
     assert!(rt; Sheet::read(minus_one.as_slice()).zone_net().kw() == -1);
     let sixty_four = zeros(rt.alloc(), b"ISP1\x80\x01", 229)?;
