@@ -1,5 +1,5 @@
 -- Whether a day was begun.
-use Rattle.std.specs.Prelude.{◌≡◌, true, false, Some, None, Option}
+use Rattle.std.specs.Prelude.{◌≡◌, false, Some, None, Option}
 use Rattle.settlement.specs.Refusals.{count_number, count_place}
 use Rattle.settlement.specs.declared.fault.CountFault.{CountFault}
 use Rattle.settlement.specs.declared.fault.StartFault.{StartFault}

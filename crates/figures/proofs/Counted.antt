@@ -1,5 +1,5 @@
 -- V is above 0 exactly where a slot counts.
-use Rattle.std.proofs.Common.{◌≡◌, ℕ, zero, suc, ◌+◌, ◌*◌, ◌<◌, ◌≤◌, true, ◌⊎◌, is_some, Some, None, Option, sym, refl, ap, ◌∙◌, subst, inl, inr, mul-pos, arith}
+use Rattle.std.proofs.Common.{◌≡◌, ℕ, zero, suc, ◌+◌, ◌<◌, ◌≤◌, true, is_some, Some, None, Option, sym, refl, subst, inl, inr, mul-pos, arith}
 use Rattle.std.proofs.lemmas.Bool.{cases_eq}
 use Rattle.source.specs.Meanings.{Meaning}
 use Rattle.source.specs.Products.{weight}

@@ -1,9 +1,8 @@
 -- What the slots of a quarter give is sound.
-use Rattle.std.proofs.Common.{◌≡◌, ℕ, zero, suc, ◌+◌, ◌-◌, ◌*◌, ◌<◌, ◌≤◌, Bool, true, false, cond, ltb, ◌⊎◌, ℤ, pos, negsuc, ◌+ℤ◌, ◌*ℤ◌, nat_abs, ◌≤ℤ◌, is_some, Some, None, Option, sym, refl, ap, ◌∙◌, subst, inl, inr, mul-le-mul_right, mul-le-mul_left, mul-pos, add-one, arith}
-use mathlib.Core.Logic.{∥∥₁_elim}
+use Rattle.std.proofs.Common.{◌≡◌, ℕ, zero, suc, ◌+◌, ◌-◌, ◌*◌, ◌<◌, ◌≤◌, Bool, true, false, cond, ltb, ℤ, pos, negsuc, ◌+ℤ◌, ◌*ℤ◌, nat_abs, ◌≤ℤ◌, is_some, Some, None, Option, sym, refl, ap, subst, mul-le-mul_right, mul-le-mul_left, mul-pos, arith}
 use borrow.Author.Differences.{ints, up, down}
 use lib.Signed.{lt_z}
-use Rattle.std.proofs.lemmas.Bool.{cases_eq, cond-true, lt-ltb, le-ltb}
+use Rattle.std.proofs.lemmas.Bool.{cond-true, lt-ltb}
 use Rattle.std.proofs.lemmas.Bool.Decides.{nat_tests}
 use Rattle.source.specs.Products.{weight}
 use Rattle.source.specs.Slots.{formed}
@@ -13,12 +12,10 @@ use Rattle.source.specs.declared.slot.Reading.{Reading}
 use Rattle.source.specs.declared.slot.Slot.{Slot}
 use Rattle.source.specs.declared.slot.Slot.TheVariants.{Unreported, Reported}
 use Rattle.units.specs.declared.price.Price.{Price}
-use Rattle.figures.specs.Counting.{activation, counted, counted_of, demand_in, formed_of, kw_of}
-use Rattle.figures.specs.Sides.{Slots, net_to, formed_to, counting_to, joined, manual_at, none, side_of, volume_of, cents_of}
-use Rattle.figures.specs.Spans.{lesser, greater, widened, noted, low_of, high_of}
+use Rattle.figures.specs.Counting.{activation, counted_of, demand_in, formed_of}
+use Rattle.figures.specs.Sides.{Slots, formed_to, counting_to, joined, manual_at, side_of, volume_of, cents_of}
+use Rattle.figures.specs.Spans.{lesser, greater, widened, noted}
 use Rattle.figures.specs.declared.side.Activation.{Activation}
-use Rattle.figures.specs.declared.side.Manual.{Manual}
-use Rattle.figures.specs.declared.side.Side.{Side}
 use Rattle.figures.specs.declared.side.Totals.{Totals}
 use Rattle.figures.specs.declared.span.Span.{Span}
 use Rattle.figures.proofs.Sound.{Between, CyclesAre, CyclesSound, ManualSound, Sound}

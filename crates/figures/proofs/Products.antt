@@ -1,5 +1,5 @@
 -- Products of a natural and a signed number.
-use Rattle.std.proofs.Common.{◌≡◌, ℕ, suc, ◌*◌, ◌≤◌, ℤ, pos, negsuc, ◌+ℤ◌, ◌*ℤ◌, nat_abs, Option, ap, ◌∙◌, mul-le-mul_left, arith, w64, to_z, of_z}
+use Rattle.std.proofs.Common.{◌≡◌, ℕ, ◌*◌, ◌≤◌, ℤ, pos, negsuc, ◌+ℤ◌, ◌*ℤ◌, nat_abs, Option, ap, ◌∙◌, mul-le-mul_left, arith, w64, to_z, of_z}
 use Rattle.figures.specs.declared.side.Totals.{Totals}
 use Rattle.figures.specs.declared.span.Span.{Span}
 use borrow.Author.Differences.{ints}

@@ -1,7 +1,6 @@
 -- What holds of the figures of a direction, whatever slots give them.
-use Rattle.std.proofs.Common.{◌≡◌, ℕ, ◌≤◌, true, ℤ, pos, ◌*ℤ◌, ◌≤ℤ◌, is_some, Some, None, Option}
+use Rattle.std.proofs.Common.{◌≡◌, ℕ, ◌≤◌, true, ℤ, pos, ◌*ℤ◌, ◌≤ℤ◌, is_some, Option}
 use denote.Struct.Props.{props}
-use Rattle.units.specs.declared.price.Price.{Price}
 use Rattle.figures.specs.Spans.{low_of, high_of}
 use Rattle.figures.specs.Sides.{cents_of}
 use Rattle.figures.specs.declared.side.Manual.{Manual}

@@ -6,18 +6,16 @@ use Rattle.source.specs.Products.{weight}
 use Rattle.source.specs.Slots.{formed}
 use Rattle.source.specs.declared.direction.Direction.{Direction}
 use Rattle.source.specs.declared.direction.Direction.TheVariants.{Up, Down}
-use Rattle.source.specs.declared.slot.Reading.{Reading}
 use Rattle.source.specs.declared.slot.Slot.{Slot}
 use Rattle.source.specs.declared.slot.Slot.TheVariants.{Unreported, Reported}
 use Rattle.units.specs.declared.price.Price.{Price}
 use Rattle.units.specs.declared.zone_net.ZoneNet.{ZoneNet}
 use Rattle.figures.specs.Counting.{counted_of, counted, formed_of, kw_of, reported}
-use Rattle.figures.specs.Sides.{Given, ReportedTo, Slots, side_of, net_to, formed_to, counting_to, joined, manual_at, none, volume_of}
+use Rattle.figures.specs.Sides.{Given, ReportedTo, Slots, side_of, net_to, formed_to, counting_to, joined, manual_at, volume_of}
 use Rattle.figures.specs.Gathering.{side_from}
 use Rattle.figures.specs.Spans.{low_of, high_of, noted}
 use Rattle.figures.specs.Tallies.{Room, Tallied, blank, counting, manual, noting}
 use Rattle.figures.specs.declared.gathering.ManualSlots.{ManualSlots}
-use Rattle.figures.specs.declared.side.Manual.{Manual}
 use Rattle.figures.specs.declared.side.Side.{Side}
 use Rattle.figures.specs.declared.side.Totals.{Totals}
 use Rattle.figures.specs.declared.span.Span.{Span}

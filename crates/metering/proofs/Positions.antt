@@ -1,10 +1,8 @@
 -- The sum of the schedules and the first that is out of bounds, one schedule at a time.
-use Rattle.std.proofs.Common.{◌≡◌, ℕ, ◌+◌, ◌*◌, ◌<◌, ◌≤◌, true, false, leb, List, length, get_or, take, drop, ℤ, pos, ◌+ℤ◌, ◌-ℤ◌, nat_abs, Some, None, Ok, Option, sym, refl, ap, ◌∙◌, arith}
-use borrow.Author.Differences.{ints}
-use Rattle.std.proofs.lemmas.List.Sums.{fold_more, prefix_len-drop_all, prefix_len-drop_no, prefix_len-drop_yes}
+use Rattle.std.proofs.Common.{◌≡◌, ℕ, ◌+◌, ◌<◌, ◌≤◌, true, false, leb, List, length, get_or, take, drop, ℤ, pos, ◌+ℤ◌, nat_abs, Some, None, Ok, Option, sym, refl, ap, ◌∙◌, arith}
+use Rattle.std.proofs.lemmas.List.Sums.{fold_more, prefix_len-drop_no, prefix_len-drop_yes}
 use Rattle.std.proofs.lemmas.Bool.{le-leb, leb-true, lt-leb}
 use Rattle.metering.specs.Imbalances.{Values, good_schedules, in_bounds, metering_fault, position, schedule_fault, unless, unless_fault}
-use Rattle.metering.specs.declared.fault.MeteringFault.{MeteringFault}
 use Rattle.metering.specs.declared.fault.MeteringFault.TheVariants.{Schedule}
 
 pub small : (z : ℤ) → in_bounds z ≡ true → nat_abs z ≤ 5_000_000

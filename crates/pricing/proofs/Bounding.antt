@@ -1,5 +1,5 @@
 -- The bounds of a quote follow from the laws and from the rounding.
-use Rattle.std.proofs.Common.{◌≡◌, ℕ, ◌+◌, ◌*◌, ◌≤◌, ℤ, pos, ◌+ℤ◌, ◌-ℤ◌, ◌*ℤ◌, nat_abs, ◌≤ℤ◌, Some, sym, ap, ◌∙◌, subst, arith}
+use Rattle.std.proofs.Common.{◌≡◌, ℕ, ◌+◌, ◌*◌, ◌≤◌, ℤ, pos, ◌+ℤ◌, ◌-ℤ◌, ◌*ℤ◌, ◌≤ℤ◌, sym, ap, subst, arith}
 use borrow.Author.Differences.{ints, up, down}
 use Rattle.figures.specs.Components.{side_in, value, volume}
 use Rattle.figures.specs.Spans.{low_of, high_of}

@@ -1,23 +1,19 @@
 -- A source has at most one set of figures, and so at most one quote under a rulebook.
-use Rattle.std.proofs.Common.{◌≡◌, ℕ, ◌<◌, true, ℤ, Some, None, Ok, Err, Option, sym, refl, ap, ◌∙◌, subst, ⊎_elim, arith}
+use Rattle.std.proofs.Common.{◌≡◌, ℕ, ◌<◌, Some, None, Ok, Err, Option, sym, refl, ap, ◌∙◌, subst, ⊎_elim, arith}
 use mathlib.Core.HLevel.{is_prop→PathP}
 use mathlib.Core.Logic.{∥∥₁_prop}
 use Rattle.std.proofs.lemmas.Bool.{cases_order}
 use Rattle.figures.specs.Counting.{reported}
 use Rattle.figures.specs.Gathering.{FirstUnreported, Gives}
 use Rattle.figures.specs.Sides.{Given, ReportedTo, Slots}
-use Rattle.figures.specs.declared.fault.UnreportedSlot.{UnreportedSlot}
 use Rattle.figures.specs.declared.quarter_figures.Figures.{Figures}
-use Rattle.figures.specs.declared.side.Side.{Side}
 use Rattle.source.specs.Meanings.{Meaning}
 use Rattle.source.specs.declared.slot.Slot.TheVariants as slot
 use Rattle.units.proofs.Made.{price_same}
 use Rattle.units.specs.declared.price.Price.{Price}
-use Rattle.units.specs.declared.zone_net.ZoneNet.{ZoneNet}
 use Rattle.pricing.specs.Outcomes.{Outcome, avoided, priced}
 use Rattle.pricing.specs.Quotes.{Answer, FromFigures, Quoted, Quotes}
 use Rattle.pricing.specs.declared.fault.QuoteFault.TheVariants.{NoAvoidedValue, Unreported}
-use Rattle.pricing.specs.declared.quote.Quote.{Quote}
 
 -- the evidence that figures carry is a proposition
 figures_same : (f g : Figures) → f.local_net ≡ g.local_net → f.zone_net ≡ g.zone_net → f.avoided ≡ g.avoided → f.up ≡ g.up → f.down ≡ g.down → f ≡ g

@@ -1,5 +1,5 @@
 -- A quote of the figures that a source gives is the source's.
-use Rattle.std.proofs.Common.{◌≡◌, ℕ, Some, None, Ok, Err, Option, sym, refl, ap, ◌∙◌, subst, arith}
+use Rattle.std.proofs.Common.{◌≡◌, ℕ, Some, None, Ok, Err, Option, subst, arith}
 use Rattle.figures.specs.Gathering.{Gives}
 use Rattle.figures.specs.declared.fault.UnreportedSlot.{UnreportedSlot}
 use Rattle.figures.specs.declared.quarter_figures.Figures.{Figures}

@@ -1,5 +1,5 @@
 -- Between which prices a quote lies.
-use Rattle.std.specs.Prelude.{◌≡◌, ℕ, true, ℤ, pos, ◌+ℤ◌, ◌-ℤ◌, ◌*ℤ◌, ◌≤ℤ◌, is_some, Some, Ok, Err}
+use Rattle.std.specs.Prelude.{◌≡◌, true, ℤ, pos, ◌+ℤ◌, ◌-ℤ◌, ◌*ℤ◌, ◌≤ℤ◌, is_some, Some, Ok, Err}
 use Rattle.figures.specs.Components.{value, volume}
 use Rattle.figures.specs.Gathering.{Gives}
 use Rattle.figures.specs.Spans.{low_of, high_of}

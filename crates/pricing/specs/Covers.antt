@@ -1,21 +1,21 @@
 -- A price that is as extreme as the components is as extreme as the mean of what they stand for.
-use Rattle.std.specs.Prelude.{◌≡◌, ℕ, zero, suc, ◌+◌, ◌*◌, ◌<◌, ◌≤◌, Bool, true, false, cond, ℤ, pos, negsuc, ◌+ℤ◌, ◌*ℤ◌, ◌≤ℤ◌, is_some, Some, None, Option, nat_lt, refl}
-use Rattle.std.proofs.Common.{sym, ap, subst, ◌∙◌, mul-le-mul_right, arith}
+use Rattle.std.specs.Prelude.{◌≡◌, ℕ, zero, suc, ◌+◌, ◌*◌, ◌≤◌, true, ℤ, pos, ◌+ℤ◌, ◌*ℤ◌, ◌≤ℤ◌, is_some, Some, None, Option, nat_lt, refl}
+use Rattle.std.proofs.Common.{sym, ap, subst, mul-le-mul_right, arith}
 use borrow.Author.Differences.{ints, product_is, up, down}
-use Rattle.std.proofs.lemmas.Bool.{cond_both, cond-true, lt-ltb, ltb-true}
+use Rattle.std.proofs.lemmas.Bool.{cond-true, lt-ltb}
 use Rattle.std.specs.Option.{option_map}
-use Rattle.figures.specs.Components.{Component, counting_price, cycles_extreme, farthest, formed_price, quotient, worth}
+use Rattle.figures.specs.Components.{counting_price, farthest, formed_price, quotient, worth}
 use Rattle.figures.specs.Sides.{cents_of}
 use Rattle.figures.specs.Spans.{low_of, high_of}
 use Rattle.figures.specs.declared.side.Manual.{Manual}
 use Rattle.figures.specs.declared.span.Span.{Span}
-use Rattle.figures.proofs.Sound.{Between, CyclesAre, ManualSound}
+use Rattle.figures.proofs.Sound.{CyclesAre, ManualSound}
 use Rattle.source.specs.declared.direction.Direction.{Direction}
 use Rattle.source.specs.declared.direction.Direction.TheVariants.{Up, Down}
 use Rattle.units.specs.Exact.{Exact, whole}
 use Rattle.units.specs.declared.price.Price.{Price}
-use Rattle.pricing.specs.Laws.{Beyond, Within}
-use Rattle.pricing.specs.Reach.{OnSome, Reach, Tops}
+use Rattle.pricing.specs.Laws.{Beyond}
+use Rattle.pricing.specs.Reach.{Tops}
 
 -- r is as extreme as x / v
 abbrev pub Covers : Direction → Exact → ℤ → ℕ → Type 0

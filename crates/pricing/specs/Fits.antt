@@ -1,7 +1,7 @@
 -- Each component comes from the prices formed in its direction.
-use Rattle.std.specs.Prelude.{◌≡◌, ℕ, zero, suc, ◌+◌, ◌*◌, ◌<◌, ◌≤◌, Bool, true, false, cond, ℤ, pos, ◌+ℤ◌, ◌*ℤ◌, ◌≤ℤ◌, is_some, Some, None, Option, nat_lt, refl}
-use Rattle.std.proofs.Common.{sym, ap, subst, ◌∙◌, mul-le-mul_right, arith}
-use borrow.Author.Differences.{ints, up, down}
+use Rattle.std.specs.Prelude.{◌≡◌, ℕ, zero, suc, ◌+◌, ◌≤◌, true, ℤ, pos, ◌+ℤ◌, ◌*ℤ◌, ◌≤ℤ◌, is_some, Some, None, Option, nat_lt, refl}
+use Rattle.std.proofs.Common.{sym, subst, arith}
+use borrow.Author.Differences.{ints}
 use Rattle.std.proofs.lemmas.Bool.{cond_both, ltb-true}
 use Rattle.std.specs.Option.{option_map}
 use Rattle.figures.proofs.Gathered.{scaled}
@@ -15,7 +15,7 @@ use Rattle.figures.proofs.Counted.{by_part}
 use Rattle.figures.proofs.Sound.{Between, CyclesAre, ManualSound, Sound}
 use Rattle.source.specs.declared.direction.Direction.{Direction}
 use Rattle.source.specs.declared.direction.Direction.TheVariants.{Up, Down}
-use Rattle.units.specs.Exact.{Exact, whole}
+use Rattle.units.specs.Exact.{whole}
 use Rattle.units.specs.declared.price.Price.{Price}
 use Rattle.pricing.specs.Laws.{Within}
 use Rattle.pricing.specs.Reach.{OnSome, extreme_keeps}

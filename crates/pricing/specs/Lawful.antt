@@ -1,8 +1,8 @@
 -- Each pricing of the table keeps the laws, and so does each rulebook that goes by it.
-use Rattle.std.specs.Prelude.{◌≡◌, ℕ, zero, suc, ◌+◌, ◌<◌, ◌≤◌, Bool, true, false, cond, ◌||◌, T, ℤ, pos, ◌+ℤ◌, ◌*ℤ◌, ◌<ℤ◌, is_some, Some, None, Option, ◌≢◌, int_lt, nat_lt, refl}
+use Rattle.std.specs.Prelude.{◌≡◌, ℕ, zero, suc, ◌≤◌, Bool, true, false, cond, ◌||◌, T, ℤ, pos, ◌+ℤ◌, ◌*ℤ◌, ◌<ℤ◌, is_some, Some, None, Option, ◌≢◌, int_lt, nat_lt, refl}
 use Rattle.std.proofs.Common.{sym, ap, subst, ◌∙◌, arith}
 use Rattle.std.proofs.lemmas.Int.{ints}
-use Rattle.std.proofs.lemmas.Bool.{cases_Bool, cond_both, cond-false, cond-true, lt-ltb, ltb-false, ltb-true, or_parts}
+use Rattle.std.proofs.lemmas.Bool.{cond_both, cond-true, lt-ltb, ltb-false, or_parts}
 use Rattle.std.specs.Option.{option_map}
 use Rattle.figures.specs.Components.{Component, automatic_mean, counting_price, cycles_extreme, extreme, farthest, formed_price, manual_counts, over_manual, quotient, side_in, value, volume, weighted_mean, worth}
 use Rattle.figures.specs.declared.quarter_figures.Figures.{Figures}
@@ -15,9 +15,8 @@ use Rattle.figures.proofs.Sound.{ManualSound, Sound}
 use Rattle.source.specs.declared.direction.Direction.{Direction}
 use Rattle.source.specs.declared.direction.Direction.TheVariants.{Up, Down}
 use Rattle.units.specs.Exact.{Exact, whole}
-use Rattle.units.specs.declared.price.Price.{Price}
-use Rattle.pricing.specs.Laws.{Beyond, BeyondMean, Follows, FromFormed, Heeds, Within}
-use Rattle.pricing.specs.Outcomes.{Outcome, avoided, decided, decided_in, outcome_at, priced, toward}
+use Rattle.pricing.specs.Laws.{BeyondMean, Follows, FromFormed, Heeds, Within}
+use Rattle.pricing.specs.Outcomes.{avoided, decided, decided_in, outcome_at, toward}
 use Rattle.pricing.specs.Rulings.{Pricing, automatic_or_manual, extreme_counting, finnish_price, mean_or_manual, mean_price}
 use Rattle.pricing.specs.Covers.{Covers, covers_add, covers_cycles, covers_manual, covers_none, covers_quotient, no_value}
 use Rattle.pricing.specs.Fits.{automatic_fits, counting_fits, cycles_fit, formed_fits, mean_fits, over_fits}

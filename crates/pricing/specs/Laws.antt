@@ -1,5 +1,5 @@
 -- The four laws that every rulebook keeps, for all figures that 228 reported slots can give.
-use Rattle.std.specs.Prelude.{◌≡◌, ℕ, ◌≤◌, true, ℤ, pos, ◌*ℤ◌, ◌≤ℤ◌, ◌<ℤ◌, is_some, Some, Option, ◌≢◌}
+use Rattle.std.specs.Prelude.{◌≡◌, ◌≤◌, true, ℤ, pos, ◌*ℤ◌, ◌≤ℤ◌, ◌<ℤ◌, is_some, Some, Option, ◌≢◌}
 use Rattle.figures.specs.Components.{side_in, value, volume}
 use Rattle.figures.specs.Spans.{low_of, high_of}
 use Rattle.figures.specs.declared.quarter_figures.Figures.{Figures}

@@ -1,6 +1,6 @@
 -- The extreme of two components is one of them, and is as extreme as both.
-use Rattle.std.specs.Prelude.{◌≡◌, ℕ, zero, suc, ◌+◌, ◌*◌, ◌≤◌, Bool, true, false, cond, T, ℤ, pos, negsuc, ◌+ℤ◌, ◌*ℤ◌, ◌≤ℤ◌, is_some, Some, None, int_le, refl}
-use Rattle.std.proofs.Common.{sym, ap, subst, ◌∙◌, mul-le-mul_right, arith}
+use Rattle.std.specs.Prelude.{◌≡◌, ℕ, ◌+◌, ◌*◌, ◌≤◌, Bool, true, false, cond, T, ℤ, pos, ◌*ℤ◌, ◌≤ℤ◌, is_some, Some, None, int_le, refl}
+use Rattle.std.proofs.Common.{sym, ap, subst, mul-le-mul_right, arith}
 use borrow.Author.Differences.{ints, up, down}
 use Rattle.std.proofs.lemmas.Int.{by_lt_z}
 use Rattle.std.specs.Option.{unwrap_or}

@@ -1,16 +1,16 @@
 -- Checks that are passed, and answers that are accepted or refused by them.
-use Rattle.std.proofs.Common.{◌≡◌, ℕ, ◌<◌, ◌≤◌, Bool, true, false, not, ltb, Some, None, Ok, Err, Option, Result, sym, refl, ap, ◌∙◌, arith}
+use Rattle.std.proofs.Common.{◌≡◌, ℕ, ◌<◌, ◌≤◌, Bool, true, false, Some, None, Ok, Err, Option, Result, refl, ap, arith}
 use Rattle.std.proofs.lemmas.Bool.{ltb-true, lt-ltb, le-ltb, not-true}
 use Rattle.metering.specs.Imbalances.{or_next, unless, unless_fault}
 use Rattle.pricing.specs.Quotes.{Answer, Quoted}
 use Rattle.pricing.specs.declared.quote.Quote.{Quote}
 use Rattle.source.specs.Meanings.{Meaning}
 use Rattle.settlement.specs.Events.{Rules}
-use Rattle.settlement.specs.Known.{Known, closed_fault, party_fault, period_fault, place_fault, pricing_fault, unless_refused}
+use Rattle.settlement.specs.Known.{Known, closed_fault, party_fault, period_fault, pricing_fault, unless_refused}
 use Rattle.settlement.specs.Quarters.{closing, filing, is_closed}
 use Rattle.settlement.specs.Runs.{PricedAs, QuotedAt}
 use Rattle.settlement.specs.declared.fault.BookFault.{BookFault}
-use Rattle.settlement.specs.declared.fault.BookFault.TheVariants.{PeriodOutOfRange, PartyOutOfRange, QuarterClosed}
+use Rattle.settlement.specs.declared.fault.BookFault.TheVariants.{PeriodOutOfRange, PartyOutOfRange}
 use Rattle.settlement.specs.declared.quarter.Quarter.{Quarter}
 use Rattle.settlement.specs.declared.quarter.Quarter.TheVariants.{Blank, Priced, Closed}
 

@@ -1,12 +1,10 @@
 -- The quote of a lawful rulebook is within half a cent of its exact price, and within its bounds.
-use Rattle.std.proofs.Common.{◌≡◌, ℕ, ◌*◌, ◌≤◌, ℤ, pos, ◌-ℤ◌, ◌*ℤ◌, nat_abs, ◌≤ℤ◌, Some, None, Ok, Err, Option, sym, refl, ap, ◌∙◌, subst, arith}
+use Rattle.std.proofs.Common.{◌≡◌, ℕ, ℤ, ◌≤ℤ◌, Some, None, Ok, Option, sym, refl, ap, ◌∙◌, subst, arith}
 use borrow.Author.Differences.{ints}
 use Rattle.figures.specs.Gathering.{Gives}
-use Rattle.figures.specs.Sides.{side_of}
 use Rattle.figures.specs.declared.quarter_figures.Figures.{Figures}
 use Rattle.pricing.proofs.Bounding.{quote_bounded}
 use Rattle.pricing.specs.Bounds.{Bounded, BoundedBy, KeepsLaws}
-use Rattle.pricing.specs.Laws.{FromFormed}
 use Rattle.pricing.specs.Outcomes.{Outcome, avoided, priced as ruled}
 use Rattle.pricing.specs.Quotes.{Quoted, Quotes, standing}
 use Rattle.pricing.specs.declared.quote.Quote.{Quote}
@@ -21,7 +19,7 @@ use Rattle.units.specs.Exact.{Exact}
 use Rattle.units.specs.Rounding.{Nearest, rounded}
 use Rattle.units.specs.declared.price.Price.{Price}
 use Rattle.settlement.specs.Events.{Filing, Lawful, Rules}
-use Rattle.settlement.specs.Runs.{HalfCent, RightPrice, StandsFor, WithinBounds}
+use Rattle.settlement.specs.Runs.{RightPrice, StandsFor, WithinBounds}
 use Rattle.settlement.specs.declared.quarter.Quarter.{Quarter}
 use Rattle.settlement.specs.declared.quarter.Quarter.TheVariants.{Priced}
 use Rattle.settlement.proofs.Checks.{never}

@@ -1,8 +1,8 @@
 -- Each call keeps that the book holds what the run says.
-use Rattle.std.proofs.Common.{◌≡◌, ℕ, zero, suc, ◌+◌, ◌*◌, ◌/◌, ◌%◌, ◌<◌, ◌≤◌, Bool, true, false, cond, not, ◌&&◌, ◌||◌, eqb, ltb, ◌≢◌, List, [], ◌∷◌, length, get_or, set, replicate, ℤ, pos, ◌+ℤ◌, ◌-ℤ◌, ◌*ℤ◌, nat_abs, Some, None, Ok, Err, vec_items, vec_len, Option, Result, sym, refl, ap, ◌∙◌, subst, ⊎_elim, arith, get_or-set_other, get_or-set_same}
+use Rattle.std.proofs.Common.{◌≡◌, ℕ, zero, suc, ◌+◌, ◌*◌, ◌/◌, ◌%◌, ◌<◌, ◌≤◌, Bool, true, false, not, ◌&&◌, eqb, ◌≢◌, List, [], ◌∷◌, length, get_or, set, replicate, ℤ, ◌+ℤ◌, ◌-ℤ◌, ◌*ℤ◌, Some, None, Ok, Err, vec_items, Option, sym, refl, ap, ◌∙◌, subst, ⊎_elim, arith, get_or-set_other, get_or-set_same}
 use borrow.Author.Differences.{ints}
 use Rattle.std.specs.Option.{option_map}
-use Rattle.std.proofs.lemmas.Bool.{eqb-true, eq-eqb, ne_eqb, cases_Bool, cases_eq, cases_lt, and_parts, and_from, cond_both, cond-false, cond-true}
+use Rattle.std.proofs.lemmas.Bool.{eqb-true, eq-eqb, ne_eqb, cases_Bool, cases_eq, cases_lt, and_parts, and_from}
 use Rattle.std.proofs.lemmas.Nat.{mul-add-lt, div-mul-add, mod-mul-add}
 use Rattle.metering.specs.Imbalances.{Values, balanced, imbalance, kwh_of, metering_fault, or_next, unless, unless_fault}
 use Rattle.metering.specs.declared.imbalance.Imbalance.{Imbalance}
@@ -11,15 +11,14 @@ use Rattle.source.specs.Meanings.{Meaning}
 use Rattle.units.proofs.Rounds.{nearest_rounded}
 use Rattle.units.specs.Rounding.{rounded}
 use Rattle.units.specs.declared.euros.Amount.{Amount}
-use Rattle.settlement.specs.Books.{Filed, FiledAs, Fresh, Metered, Paid, imbalance_at, in_book, paid_to, quarter_at}
-use Rattle.settlement.specs.Events.{Event, priced, metered, closed, settled, Filing, Lawful, Rules, added, after_run, last_pricing, latest, volume_after, metering_of, or_zero, payments_since, quarter_after, stands_as, was_closed, when}
-use Rattle.settlement.specs.Known.{Known, closed_fault, party_fault, payable, period_fault, pricing_fault, sum_to, unless_refused, volume_fault, worth}
+use Rattle.settlement.specs.Books.{Filed, Fresh, Metered, Paid, imbalance_at, in_book, paid_to, quarter_at}
+use Rattle.settlement.specs.Events.{Event, priced, metered, closed, settled, Filing, Lawful, Rules, after_run, last_pricing, volume_after, payments_since, quarter_after, stands_as, was_closed, when}
+use Rattle.settlement.specs.Known.{party_fault, payable, period_fault, unless_refused, volume_fault, worth}
 use Rattle.settlement.specs.Payments.{nothing}
 use Rattle.settlement.specs.Quarters.{closed_as, closing, is_closed, standing_cents}
 use Rattle.settlement.specs.Runs.{Answered, Changes, Did, FairlyPaid, PricedAs, RightPrice, Run, begun, after, Sound, Whole, WithinBounds}
 use Rattle.settlement.specs.declared.book.Book.{Book}
-use Rattle.settlement.specs.declared.fault.BookFault.{BookFault}
-use Rattle.settlement.specs.declared.fault.BookFault.TheVariants.{PeriodOutOfRange, PartyOutOfRange, QuarterClosed, Metering}
+use Rattle.settlement.specs.declared.fault.BookFault.TheVariants.{QuarterClosed, Metering}
 use Rattle.settlement.specs.declared.quarter.Quarter.{Quarter}
 use Rattle.settlement.specs.declared.quarter.Quarter.TheVariants.{Blank, Priced, Closed}
 use Rattle.settlement.proofs.Checks.{Accepted, Shut, accepted, closing_accepted, or_none, party_known, party_past, period_known, pricing_accepted}

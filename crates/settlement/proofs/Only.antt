@@ -1,5 +1,5 @@
 -- Exactly one answer fits each call.
-use Rattle.std.proofs.Common.{◌≡◌, ℕ, ℤ, Some, None, Ok, Err, Option, Result, sym, refl, ap, ◌∙◌}
+use Rattle.std.proofs.Common.{◌≡◌, ℕ, ℤ, Some, None, Ok, Err, Option, Result, sym, ap, ◌∙◌}
 use Rattle.metering.proofs.Made.{imbalance_same}
 use Rattle.metering.specs.Imbalances.{kwh_of}
 use Rattle.metering.specs.declared.imbalance.Imbalance.{Imbalance}

@@ -1,5 +1,5 @@
 -- Each answer of the code is the one that what is known gives.
-use Rattle.std.proofs.Common.{◌≡◌, ℕ, ◌<◌, ◌≤◌, Bool, true, false, not, ℤ, ◌+ℤ◌, ◌-ℤ◌, nat_abs, Some, None, Ok, Err, Option, Result, sym, refl, ap, ◌∙◌, subst, arith, w64, SFits, to_z, of_z}
+use Rattle.std.proofs.Common.{◌≡◌, ℕ, ◌<◌, ◌≤◌, true, false, not, ℤ, ◌+ℤ◌, ◌-ℤ◌, nat_abs, Some, None, Ok, Err, Option, Result, sym, refl, ap, ◌∙◌, subst, arith, w64, SFits, to_z, of_z}
 use borrow.Author.Differences.{ints}
 use Rattle.std.specs.Option.{option_map}
 use Rattle.metering.specs.Imbalances.{Values, imbalance, imbalance_of, kwh_of, metering_fault, or_next, unless, unless_fault}
@@ -10,8 +10,8 @@ use Rattle.pricing.specs.declared.quote.Quote.{Quote}
 use Rattle.source.specs.Meanings.{Meaning}
 use Rattle.settlement.specs.Events.{Rules}
 use Rattle.settlement.specs.Known.{Known, closed_fault, party_fault, payable, period_fault, pricing_fault, unless_refused, volume_fault}
-use Rattle.settlement.specs.Quarters.{closing, filing, is_closed, meets}
-use Rattle.settlement.specs.Runs.{PricedAs, QuotedAt}
+use Rattle.settlement.specs.Quarters.{closing, is_closed, meets}
+use Rattle.settlement.specs.Runs.{PricedAs}
 use Rattle.settlement.specs.declared.fault.BookFault.{BookFault}
 use Rattle.settlement.specs.declared.fault.BookFault.TheVariants.{PeriodOutOfRange, PartyOutOfRange, QuarterClosed, Metering}
 use Rattle.settlement.specs.declared.quarter.Call.TheVariants.{Price, Close}

@@ -1,5 +1,5 @@
 -- What a book holds, and what a call changes in it.
-use Rattle.std.specs.Prelude.{◌≡◌, ℕ, ◌+◌, ◌*◌, replicate, ℤ, Ok, Err, vec_items, Result, slice_index_or, slice_set}
+use Rattle.std.specs.Prelude.{◌≡◌, ℕ, ◌+◌, ◌*◌, replicate, Ok, Err, vec_items, Result, slice_index_or, slice_set}
 use Rattle.metering.specs.Imbalances.{balanced}
 use Rattle.metering.specs.declared.imbalance.Imbalance.{Imbalance}
 use Rattle.units.specs.declared.euros.Amount.{Amount}

@@ -1,5 +1,5 @@
 -- What is known of a settlement, and how a call on it is answered. A book knows it by its fields, a run by its calls.
-use Rattle.std.specs.Prelude.{ℕ, zero, suc, Bool, true, false, not, ℤ, pos, ◌+ℤ◌, ◌-ℤ◌, ◌*ℤ◌, Some, None, Ok, Err, Option, Result, nat_lt}
+use Rattle.std.specs.Prelude.{ℕ, zero, suc, not, ℤ, pos, ◌+ℤ◌, ◌-ℤ◌, ◌*ℤ◌, Some, None, Err, Option, Result, nat_lt}
 use Rattle.std.specs.Option.{option_map}
 use Rattle.metering.specs.Imbalances.{Values, metering_fault, or_next, unless}
 use Rattle.units.specs.Rounding.{rounded}

@@ -3,7 +3,7 @@ use Rattle.std.specs.Prelude.{◌≡◌, ℕ, ◌*◌, ◌<◌, ◌≤◌, ◌&&
 use Rattle.figures.specs.Gathering.{Gives}
 use Rattle.figures.specs.Sides.{side_of}
 use Rattle.figures.specs.declared.quarter_figures.Figures.{Figures}
-use Rattle.metering.specs.Imbalances.{Values, imbalance, kwh_of, or_next, unless, unless_fault}
+use Rattle.metering.specs.Imbalances.{imbalance, kwh_of, or_next, unless, unless_fault}
 use Rattle.metering.specs.declared.imbalance.Imbalance.{Imbalance}
 use Rattle.pricing.specs.Bounds.{Bounded}
 use Rattle.pricing.specs.Outcomes.{Outcome, avoided, priced as ruled}

@@ -1,5 +1,5 @@
 -- A reader that goes through the records of a sheet.
-use Rattle.std.specs.Prelude.{ℕ, ◌+◌, ◌-◌, min, cond, List, [], length, drop, Some, None, Ok, Err, Option, Result, nat_lt, slice_index}
+use Rattle.std.specs.Prelude.{ℕ, ◌+◌, min, cond, List, [], length, drop, Some, None, Ok, Err, Option, Result, nat_lt, slice_index}
 use Rattle.std.specs.List.{between}
 use Rattle.source.specs.declared.slot.Slot.{Slot}
 use Rattle.source.specs.declared.slot.Slot.TheVariants.{Unreported, Reported}

@@ -1,5 +1,5 @@
 -- Netting fill: the avoided value as the price of a cycle whose demand was met by netting.
-use Rattle.std.specs.Prelude.{ℕ, Bool, true, false, cond, pos, Some, None, Option, int_lt, nat_lt}
+use Rattle.std.specs.Prelude.{Bool, true, false, cond, pos, Some, None, Option, int_lt, nat_lt}
 use Rattle.source.specs.Meanings.{Meaning}
 use Rattle.source.specs.declared.slot.Slot.{Slot}
 use Rattle.source.specs.declared.slot.Slot.TheVariants.{Unreported, Reported}

@@ -1,5 +1,5 @@
 -- What rows of plain numbers tell.
-use Rattle.std.specs.Prelude.{ℕ, cond, List, length, ℤ, pos, Some, None, Ok, Err, Option, Result, nat_lt, slice_index_or}
+use Rattle.std.specs.Prelude.{cond, List, length, ℤ, pos, Some, None, Ok, Err, Option, Result, nat_lt, slice_index_or}
 use Rattle.source.specs.Meanings.{Meaning}
 use Rattle.source.specs.declared.slot.Slot.{Slot}
 use Rattle.source.specs.declared.slot.Slot.TheVariants.{Unreported, Reported}

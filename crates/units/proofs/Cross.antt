@@ -1,5 +1,5 @@
 -- A numerator of 64 bits times a denominator of 64 bits fits 128.
-use Rattle.std.proofs.Common.{ℕ, suc, ◌+◌, ◌-◌, ◌*◌, ◌^◌, ◌<◌, ◌≤◌, ℤ, pos, negsuc, ◌*ℤ◌, mul-le-mul, arith, w64, SFits}
+use Rattle.std.proofs.Common.{ℕ, suc, ◌-◌, ◌^◌, ◌<◌, ◌≤◌, ℤ, pos, negsuc, ◌*ℤ◌, mul-le-mul, arith, w64, SFits}
 use borrow.Author.Differences.{ints}
 use mir.Syntax.{w128}
 

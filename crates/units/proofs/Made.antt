@@ -1,5 +1,5 @@
 -- A quantity is known by its number, and is the one that is made of it.
-use Rattle.std.proofs.Common.{◌≡◌, ℕ, ◌≤◌, Bool, true, false, T, leb, ℤ, nat_abs, Ok, Err, Result, refl, ap, subst, le→leb, leb→le}
+use Rattle.std.proofs.Common.{◌≡◌, ℕ, ◌≤◌, Bool, true, false, T, leb, ℤ, nat_abs, Ok, Err, Result, ap, subst, le→leb, leb→le}
 use mathlib.Core.HLevel.{is_prop→PathP}
 use native.Mathlib.Bridge.{le_prop}
 use Rattle.units.specs.declared.bounds.OutOfBounds.{OutOfBounds}

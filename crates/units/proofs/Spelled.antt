@@ -1,5 +1,5 @@
 -- What the parts of a format give is the amount's text.
-use Rattle.std.proofs.Common.{◌≡◌, ℕ, suc, ◌+◌, ◌/◌, ◌%◌, ◌<◌, true, false, List, [], ◌∷◌, ◌++◌, ℤ, pos, negsuc, nat_abs, decimal, sym, refl, ap, ◌∙◌, arith}
+use Rattle.std.proofs.Common.{◌≡◌, ℕ, ◌/◌, ◌%◌, true, false, List, ◌∷◌, ◌++◌, ℤ, pos, negsuc, nat_abs, decimal, ap, ◌∙◌, arith}
 use Rattle.units.specs.Text.{magnitude, euros}
 use Rattle.std.proofs.lemmas.Fmt.{decimal_digit}
 use borrow.Author.Differences.{ints}

@@ -1,10 +1,9 @@
 -- The figures of a quarter whose slots are all reported, and the quote of what a rulebook gives for them.
-use Rattle.std.proofs.Common.{◌≡◌, ℕ, ◌<◌, ℤ, Some, None, Ok, Err, sym, refl, subst}
-use Rattle.figures.specs.Gathering.{Gives}
+use Rattle.std.proofs.Common.{◌≡◌, ℕ, Some, None, Ok, Err, sym, refl, subst}
 use Rattle.figures.specs.Sides.{Given, ReportedTo, net_to, side_of}
 use Rattle.figures.specs.declared.quarter_figures.Figures.{Figures}
 use Rattle.pricing.specs.Outcomes.{Outcome, avoided, priced}
-use Rattle.pricing.specs.Quotes.{Quoted, Quotes, standing}
+use Rattle.pricing.specs.Quotes.{Quotes, standing}
 use Rattle.pricing.specs.declared.fault.QuoteFault.TheVariants.{NoAvoidedValue}
 use Rattle.pricing.specs.declared.quote.Quote.{Quote}
 use Rattle.pricing.specs.declared.quote.QuoteDirection.TheVariants.{Avoided}

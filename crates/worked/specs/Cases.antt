@@ -15,7 +15,6 @@ use Rattle.sheet.specs.declared.fault.NumberFault.{NumberFault}
 use Rattle.sheet.specs.declared.fault.Spot.{Spot}
 use Rattle.source.specs.Meanings.{Meaning}
 use Rattle.units.specs.Quantities.{zone_net_of}
-use Rattle.units.specs.declared.price.Price.{Price}
 use Rattle.writing.specs.Bytes.{number_bytes}
 use Rattle.worked.specs.Quarters.{balanced, cents, half_cent, manual_activated, manual_formed, three_levels}
 use Rattle.worked.specs.Runs.{PaysNext, kwh, metered_at}

@@ -3,7 +3,6 @@ use Rattle.std.specs.Prelude.{ℕ, T, List, [], ◌∷◌, ℤ, pos, Ok, nat_le,
 use Rattle.std.proofs.Common.{leb→le}
 use Rattle.metering.specs.Imbalances.{Values}
 use Rattle.metering.specs.declared.imbalance.Imbalance.{Imbalance}
-use Rattle.pricing.specs.declared.quote.Quote.{Quote}
 use Rattle.pricing.specs.declared.quote.QuoteDirection.TheVariants.{Up}
 use Rattle.settlement.specs.Events.{Event, priced, metered, settled, Rules, after_run}
 use Rattle.settlement.specs.Runs.{Answered}

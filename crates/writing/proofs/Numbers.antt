@@ -1,5 +1,5 @@
 -- The groups of a folded number are the number's bytes, also where it is written.
-use Rattle.std.proofs.Common.{◌≡◌, ℕ, ◌+◌, ◌≤◌, List, [], ◌++◌, length, take, drop, ℤ, sym, ap, ◌∙◌, subst, arith, take-append-drop}
+use Rattle.std.proofs.Common.{◌≡◌, ℕ, ◌+◌, List, [], ◌++◌, take, drop, ℤ, ap, ◌∙◌, arith, take-append-drop}
 use Rattle.writing.specs.Bytes.{folded, groups_of, number_bytes}
 use Rattle.writing.specs.Writes.{over}
 

@@ -1,4 +1,4 @@
-use Rattle.std.proofs.Common.{ℕ, pos, negsuc, Some, None, refl}
+use Rattle.std.proofs.Common.{pos, negsuc, Some, None, refl}
 use Rattle.figures.specs.Sides.{counting_to, formed_to, net_to}
 use Rattle.pricing.specs.Rulings.{combined_all, combined_automatic, finnish, max_min, weighted_average}
 use Rattle.sheet.specs.Numbers.{quantity}

@@ -1,5 +1,5 @@
 use borrow.Author.Differences.{ints}
-use Rattle.std.proofs.Common.{◌≡◌, pos, ◌*ℤ◌, sym, ap, ◌∙◌, arith}
+use Rattle.std.proofs.Common.{◌≡◌, ap, arith}
 use Rattle.std.proofs.lemmas.Int.{to_z-of_z, to_z_pos}
 use Rattle.figures.specs.Sides.{cents_of}
 use Rattle.figures.proofs.Products.{product_within}

@@ -1,4 +1,4 @@
-use Rattle.std.proofs.Common.{◌≡◌, ◌+◌, ◌*◌, ◌≤◌, take, drop, pos, ◌+ℤ◌, nat_abs, fold}
+use Rattle.std.proofs.Common.{◌≡◌, ◌+◌, ◌*◌, ◌≤◌, take, drop, nat_abs}
 use Rattle.metering.specs.Imbalances.{good_schedules, position}
 use Rattle.metering.proofs.meter_values.position_of.Given as goal
 

@@ -1,4 +1,4 @@
-use Rattle.std.proofs.Common.{◌≡◌, Ok, sym, ap, ◌∙◌, subst, rules}
+use Rattle.std.proofs.Common.{Ok, sym, ap, ◌∙◌, subst, rules}
 use Rattle.units.specs.Exact.{exact_of}
 use Rattle.pricing.specs.Bounds.{BoundedBy, KeepsLaws}
 use Rattle.pricing.specs.Quotes.{Quotes}

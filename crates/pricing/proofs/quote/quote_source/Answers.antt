@@ -1,4 +1,3 @@
-use Rattle.pricing.specs.Quotes.{Quoted}
 use Rattle.pricing.proofs.Only.{only_quote}
 use Rattle.pricing.proofs.Quoting.{from_bounds, from_figures}
 use Rattle.pricing.proofs.quote.quote_source.Goals as goal

@@ -1,5 +1,5 @@
-use Rattle.std.proofs.Common.{◌≡◌, ◌+◌, length, ap, ◌∙◌, arith}
-use Rattle.writing.specs.Bytes.{avoided_bytes, groups_of, number_bytes}
+use Rattle.std.proofs.Common.{◌+◌, length, ap, ◌∙◌, arith}
+use Rattle.writing.specs.Bytes.{avoided_bytes, number_bytes}
 use Rattle.writing.specs.Writes.{over}
 use Rattle.writing.proofs.Numbers.{numbered}
 use Rattle.writing.proofs.WriteRows.{head_parts, head_written}

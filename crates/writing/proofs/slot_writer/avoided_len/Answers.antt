@@ -1,4 +1,4 @@
-use Rattle.std.proofs.Common.{length, sym, ap, ◌∙◌, arith}
+use Rattle.std.proofs.Common.{length, ap, ◌∙◌, arith}
 use Rattle.writing.specs.Bytes.{avoided_bytes}
 use Rattle.writing.proofs.Numbers.{numbered}
 use Rattle.writing.proofs.slot_writer.avoided_len.Goals as goal

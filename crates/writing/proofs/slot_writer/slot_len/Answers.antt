@@ -1,4 +1,4 @@
-use Rattle.std.proofs.Common.{◌≡◌, ◌+◌, ◌++◌, length, sym, ap, ◌∙◌, arith, length-append}
+use Rattle.std.proofs.Common.{◌≡◌, ◌+◌, ◌++◌, length, ap, arith, length-append}
 use Rattle.writing.specs.Bytes.{number_bytes, price_bytes, slot_bytes}
 use Rattle.writing.proofs.slot_writer.slot_len.Goals as goal
 

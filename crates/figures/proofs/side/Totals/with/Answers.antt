@@ -1,5 +1,5 @@
 use borrow.Author.Differences.{ints}
-use Rattle.std.proofs.Common.{◌≡◌, ◌≤◌, pos, ◌*ℤ◌, Some, sym, refl, ap, ◌∙◌, arith, w64, to_z, of_z, subst, rules}
+use Rattle.std.proofs.Common.{◌≡◌, ◌≤◌, pos, ◌*ℤ◌, Some, sym, refl, ap, ◌∙◌, arith, w64, to_z, of_z, subst}
 use Rattle.figures.specs.Sides.{joined, volume_of}
 use Rattle.std.proofs.lemmas.Int.{to_z-of_z, to_z_pos}
 use Rattle.figures.proofs.Products.{product_within, sum_kept, totals_same}

@@ -1,4 +1,4 @@
-use Rattle.std.proofs.Common.{◌≡◌, ℕ, zero, suc, ◌*◌, ◌<◌, ◌≤◌, Some, Option, sym, refl, ap, ◌∙◌, mul-le-mul, arith}
+use Rattle.std.proofs.Common.{◌≡◌, ℕ, zero, suc, ◌*◌, ◌<◌, ◌≤◌, Some, Option, ap, ◌∙◌, mul-le-mul, arith}
 use Rattle.units.specs.declared.price.Price.{Price}
 use Rattle.figures.specs.Counting.{activation}
 use Rattle.figures.proofs.Gathered.{demand_within}

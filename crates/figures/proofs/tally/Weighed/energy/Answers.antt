@@ -1,5 +1,5 @@
 use borrow.Author.Differences.{ints}
-use Rattle.std.proofs.Common.{◌≡◌, pos, ◌*ℤ◌, sym, ap, ◌∙◌, arith, w64, SFits, to_z, of_z, rules}
+use Rattle.std.proofs.Common.{arith}
 use Rattle.std.proofs.lemmas.Int.{to_z-of_z, to_z_pos}
 use Rattle.figures.proofs.Products.{product_within}
 use Rattle.figures.proofs.tally.Weighed.energy.Goals as goal

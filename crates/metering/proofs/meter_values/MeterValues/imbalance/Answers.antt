@@ -1,4 +1,4 @@
-use Rattle.std.proofs.Common.{◌≡◌, ◌≤◌, true, List, ℤ, ◌-ℤ◌, nat_abs, Ok, sym, ap, ◌∙◌, arith, w32, w64, SFits, rules}
+use Rattle.std.proofs.Common.{◌≡◌, true, ℤ, ◌-ℤ◌, Ok, sym, ap, ◌∙◌, arith, w32, w64, SFits, rules}
 use borrow.Author.Differences.{ints}
 use Rattle.std.proofs.lemmas.Int.{to_z-of_z}
 use Rattle.metering.specs.Imbalances.{Values, imbalance, in_bounds, position, unless_fault, values_of}

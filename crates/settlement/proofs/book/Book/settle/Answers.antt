@@ -1,11 +1,11 @@
-use Rattle.std.proofs.Common.{◌≡◌, ℕ, ◌<◌, ◌≤◌, set, ℤ, ◌-ℤ◌, nat_abs, Ok, vec_items, sym, refl, ap, ◌∙◌, arith, w64, SFits}
+use Rattle.std.proofs.Common.{◌≡◌, ℕ, ◌<◌, ◌≤◌, set, ℤ, ◌-ℤ◌, nat_abs, Ok, vec_items, refl, ap, ◌∙◌, arith, w64, SFits}
 use borrow.Author.Differences.{ints}
 use Rattle.std.proofs.lemmas.Int.{to_z-of_z}
 use Rattle.units.specs.Rounding.{rounded}
 use Rattle.units.specs.declared.euros.Amount.{Amount}
 use Rattle.settlement.specs.Books.{in_book, paid_to}
 use Rattle.settlement.specs.Events.{settled}
-use Rattle.settlement.specs.Known.{payable, worth}
+use Rattle.settlement.specs.Known.{worth}
 use Rattle.settlement.specs.declared.book.Book.{Book}
 use Rattle.settlement.proofs.Kept.{whole}
 use Rattle.settlement.proofs.Readings.{read_paid}

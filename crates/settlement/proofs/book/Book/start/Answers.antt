@@ -1,12 +1,11 @@
-use Rattle.std.proofs.Common.{◌≡◌, ℕ, ◌+◌, ◌*◌, ◌<◌, ◌≤◌, Bool, true, false, ◌&&◌, leb, List, get_or, replicate, ℤ, pos, nat_abs, None, vec_items, sym, refl, ap, ◌∙◌, subst, arith}
+use Rattle.std.proofs.Common.{◌≡◌, ℕ, ◌*◌, ◌≤◌, ◌&&◌, leb, List, replicate, nat_abs, None, sym, refl, ap, ◌∙◌, subst, arith}
 use Rattle.std.proofs.lemmas.Bool.{and_from, le-leb}
-use Rattle.metering.specs.Imbalances.{balanced, or_next, unless}
+use Rattle.metering.specs.Imbalances.{or_next, unless}
 use Rattle.units.specs.declared.euros.Amount.{Amount}
 use Rattle.settlement.specs.Books.{Fresh}
 use Rattle.settlement.specs.Payments.{cents_at, nothing}
 use Rattle.settlement.specs.Runs.{begun, count_fault}
 use Rattle.settlement.specs.declared.fault.CountFault.TheVariants.{Periods, Parties}
-use Rattle.settlement.specs.declared.quarter.Quarter.TheVariants.{Blank}
 use Rattle.settlement.proofs.Kept.{all_same, fresh_sound}
 use Rattle.settlement.proofs.book.Book.start.Goals as goal
 

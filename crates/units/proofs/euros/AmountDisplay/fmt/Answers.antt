@@ -2,7 +2,7 @@ use Rattle.units.proofs.euros.AmountDisplay.fmt.Goals as goal
 use Rattle.units.proofs.Spelled.{below_zero, from_zero}
 use Rattle.std.proofs.lemmas.Int.{to_z-of_z}
 use Rattle.std.specs.Fmt.{HasWritten}
-use Rattle.std.proofs.Common.{◌≡◌, ℕ, List, subst, w64, SFits, rules}
+use Rattle.std.proofs.Common.{ℕ, List, subst, w64, SFits, rules}
 
 pub returns-then-self-lt0-clause-writes : goal.returns-then-self-lt0-clause-writes
 returns-then-self-lt0-clause-writes g c =

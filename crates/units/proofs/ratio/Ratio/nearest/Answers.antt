@@ -1,7 +1,6 @@
-use Rattle.std.proofs.Common.{◌≡◌, ℕ, ◌≤◌, pos, ◌*ℤ◌, neg_ℤ, ◌≤ℤ◌, ◌<ℤ◌, ◌∙◌, arith, w64, to_z, of_z, rules}
+use Rattle.std.proofs.Common.{pos, ◌*ℤ◌, neg_ℤ, ◌≤ℤ◌, ◌<ℤ◌, arith, w64, rules}
 use Rattle.units.proofs.Rounds.{past_half, under_minus_half, under_half}
 use Rattle.units.proofs.ratio.Ratio.nearest.Goals as goal
-use Rattle.units.specs.Rounding.{rounded}
 use Rattle.std.proofs.lemmas.Int.{to_z-of_z, to_z_pos}
 use borrow.Author.Differences.{ints}
 use lib.Signed.{rem_z}

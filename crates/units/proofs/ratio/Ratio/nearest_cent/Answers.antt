@@ -1,5 +1,5 @@
 use borrow.Author.Differences.{ints}
-use Rattle.std.proofs.Common.{◌≡◌, neg_ℤ, nat_abs, ◌≤ℤ◌, sym, ap, ◌∙◌, subst, arith, w32, w64, to_z, of_z, rules}
+use Rattle.std.proofs.Common.{◌≡◌, neg_ℤ, ◌≤ℤ◌, sym, ap, ◌∙◌, subst, arith, w32, w64, to_z, of_z}
 use Rattle.units.specs.Rounding.{rounded}
 use Rattle.units.proofs.Rounds.{keeps_bounds, nearest_is, only_nearest, price_kept, rounded_neg}
 use Rattle.units.proofs.ratio.Ratio.nearest_cent.Goals as goal
