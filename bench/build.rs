@@ -13,7 +13,7 @@ fn main() {
     println!("cargo:rustc-link-search=native={proved}");
     println!("cargo:rustc-link-search=native={support}");
     println!("cargo:rustc-link-lib=static=exports");
-    println!("cargo:rustc-link-lib=static=rattle_c");
+    println!("cargo:rustc-link-lib=static=libc_c");
     // `memory.rs` counts what is allocated.
     println!("cargo:rustc-link-arg=-Wl,--wrap=malloc");
 }

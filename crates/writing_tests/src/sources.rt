@@ -87,6 +87,10 @@ fn up_cents(slot: Slot) -> Option<i64> {
     }
 }
 
+fn up_cents_at<S: PriceSource>(source: &S, slot: usize) -> Option<i64> {
+    up_cents(source.slot(slot).ok().unwrap_or(Slot::Unreported))
+}
+
 #[test]
 fn missing_rows(rt: HostRuntime) -> Result<(), Fail> {
     let rows = [Row {
@@ -126,22 +130,10 @@ fn filled(rt: HostRuntime) -> Result<(), Fail> {
     };
     let fill = NettingFill { below: table };
     let twice = NettingFill { below: fill };
-    assert_eq!(rt;
-        up_cents(fill.slot(0).ok().unwrap_or(Slot::Unreported)),
-        Some(4_000)
-    );
-    assert_eq!(rt;
-        up_cents(fill.slot(224).ok().unwrap_or(Slot::Unreported)),
-        Some(4_000)
-    );
-    assert_eq!(rt;
-        up_cents(fill.slot(225).ok().unwrap_or(Slot::Unreported)),
-        None
-    );
-    assert_eq!(rt;
-        up_cents(twice.slot(224).ok().unwrap_or(Slot::Unreported)),
-        Some(4_000)
-    );
+    assert_eq!(rt; up_cents_at(&fill, 0), Some(4_000));
+    assert_eq!(rt; up_cents_at(&fill, 224), Some(4_000));
+    assert_eq!(rt; up_cents_at(&fill, 225), None);
+    assert_eq!(rt; up_cents_at(&twice, 224), Some(4_000));
     let bare = NettingFill {
         below: Table {
             rows: &rows,
@@ -149,10 +141,7 @@ fn filled(rt: HostRuntime) -> Result<(), Fail> {
             avoided: None,
         },
     };
-    assert_eq!(rt;
-        up_cents(bare.slot(0).ok().unwrap_or(Slot::Unreported)),
-        None
-    );
+    assert_eq!(rt; up_cents_at(&bare, 0), None);
     assert!(rt; matches!(bare.slot(228), Err(_)));
     Ok(())
 }
