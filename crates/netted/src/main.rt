@@ -6,16 +6,18 @@ use sheet::sheet::Sheet;
 use source::netting_fill::NettingFill;
 use std::io;
 use std::io::Read;
+use std::process::ExitCode;
 use writing::sheet_writer::sheet_vec;
 
-fn main(rt: HostRuntime) -> io::Result<()> {
+fn main(rt: HostRuntime) -> io::Result<ExitCode> {
     let mut bytes = Vec::new(rt.alloc());
     rt.stdin().read_to_end(&mut bytes)?;
     let sheet = Sheet::read(bytes.as_slice());
     if let Err(fault) = sheet.check() {
         rt.eprint(QuarterLines::Refused(fault))?;
-        return Err(io::Error::from(io::ErrorKind::InvalidData));
+        return Ok(ExitCode::FAILURE);
     }
     let filled = sheet_vec(rt.alloc(), &NettingFill { below: sheet })?;
-    rt.write_all(filled.as_slice())
+    rt.write_all(filled.as_slice())?;
+    Ok(ExitCode::SUCCESS)
 }
