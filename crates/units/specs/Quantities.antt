@@ -1,5 +1,5 @@
 -- A price, a demand and a zone net of a plain number, or the refusal where it is out of bounds.
-use Rattle.std.specs.Prelude.{Bool, true, false, T, ℤ, pos, Ok, Err, Result, nat_le, unsigned_abs}
+use Rattle.std.specs.Prelude.{ℕ, Bool, true, false, cond, T, ℤ, pos, Ok, Err, Result, nat_le, unsigned_abs}
 use Rattle.std.proofs.Common.{leb→le, lit≤}
 use Rattle.units.specs.declared.bounds.OutOfBounds.{OutOfBounds}
 use Rattle.units.specs.declared.bounds.OutOfBounds.TheVariants as is
@@ -11,6 +11,10 @@ use Rattle.units.specs.declared.zone_net.ZoneNet.{ZoneNet}
 abbrev pub if_t : {X : Type 0} (b : Bool) → (T b → X) → X → X
 if_t true x y = x tt
 if_t false x y = y
+
+-- a number that is at most the limit in size, or the refusal
+abbrev pub within : ℕ → OutOfBounds → ℤ → Result ℤ OutOfBounds
+within limit beyond z = cond (nat_le (unsigned_abs z) limit) (Ok z) (Err beyond)
 
 -- whole cents per MWh, from -9,999,900 to 9,999,900
 abbrev pub price_of : ℤ → Result Price OutOfBounds

@@ -1,6 +1,7 @@
 // The refusal of a plain number that is out of bounds.
-ghost use Rattle.std.specs.Prelude.{◌≡◌};
 ghost use Rattle.units.specs.Bounds.{refusal_number, refusal_place};
+
+use crate::refusal::Refusal;
 
 /// Which quantity the number was to be.
 #[derive(Clone, Copy, PartialEq, Eq, Debug)]
@@ -10,16 +11,16 @@ pub enum OutOfBounds {
     ZoneNet,
 }
 
-impl OutOfBounds {
-    pub fn number(self) -> u16
-        ensures { result ≡ refusal_number self }
-    {
+impl Refusal for OutOfBounds {
+    ghost number = { refusal_number };
+
+    ghost place = { refusal_place };
+
+    fn number(self) -> u16 {
         5
     }
 
-    pub fn place(self) -> usize
-        ensures { result ≡ refusal_place self }
-    {
+    fn place(self) -> usize {
         match self {
             OutOfBounds::Demand => 0,
             OutOfBounds::Price => 1,

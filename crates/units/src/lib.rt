@@ -7,5 +7,6 @@ pub mod euros;
 pub mod price;
 pub mod quantity;
 pub mod ratio;
+pub mod refusal;
 pub mod rounding;
 pub mod zone_net;

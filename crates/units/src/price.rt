@@ -1,8 +1,36 @@
 // A price in whole cents per MWh.
-ghost use Rattle.std.specs.Prelude.{◌≤◌, unsigned_abs};
+ghost use Rattle.std.specs.Prelude.{◌≡◌, ◌≤◌, unsigned_abs};
 
-#[derive(Clone, Copy, PartialEq, Eq)]
+use crate::bounds::OutOfBounds;
+use crate::quantity::{Quantity, within};
+
+#[derive(Clone, Copy, PartialEq, Eq, PartialOrd, Ord)]
 pub struct Price {
     pub(crate) cents: i32,
     ghost bounded: { unsigned_abs cents ≤ 9_999_900 },
+}
+
+impl Price {
+    pub fn cents(self) -> i64
+        ensures { result ≡ self.cents }
+    {
+        i64::from(self.cents)
+    }
+}
+
+impl Quantity for Price {
+    ghost use Rattle.units.specs.Quantities.{price_of};
+
+    ghost made = { price_of };
+
+    ghost number_of = { λ p. p.cents };
+
+    fn new(number: i64) -> Result<Price, OutOfBounds> {
+        let cents = within::<9_999_900>(number, OutOfBounds::Price)?;
+        Ok(Price { cents })
+    }
+
+    fn number(self) -> i64 {
+        self.cents()
+    }
 }
