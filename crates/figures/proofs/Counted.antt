@@ -3,11 +3,9 @@ use Rattle.std.proofs.Common.{◌≡◌, ℕ, zero, suc, ◌+◌, ◌<◌, ◌�
 use Rattle.std.proofs.lemmas.Bool.{cases_eq}
 use Rattle.source.specs.Meanings.{Meaning}
 use Rattle.source.specs.Products.{weight}
-use Rattle.source.specs.Slots.{formed}
+use Rattle.source.specs.Slots.{formed, Slot}
 use Rattle.source.specs.declared.direction.Direction.{Direction}
 use Rattle.source.specs.declared.direction.Direction.TheVariants.{Up, Down}
-use Rattle.source.specs.declared.slot.Slot.{Slot}
-use Rattle.source.specs.declared.slot.Slot.TheVariants.{Unreported, Reported}
 use Rattle.units.specs.declared.price.Price.{Price}
 use Rattle.figures.specs.Components.{side_in, volume}
 use Rattle.figures.specs.Counting.{Counts, activation, counted_of, demand_in}
@@ -31,12 +29,12 @@ volume_counts w (suc n) None k = absurd (omega arith)
 volume_counts w (suc n) (Some p) k = (omega arith, refl)
 
 slot_volume : (d : Direction) (w : ℕ) (s : Slot) → 1 ≤ w → Counts d s → 1 ≤ volume_of (counted_of d w s)
-slot_volume d w Unreported some h = absurd h
-slot_volume d w (Reported r) some h = counts_volume w (demand_in d r) (formed d r) some h.0 h.1
+slot_volume d w None some h = absurd h
+slot_volume d w (Some r) some h = counts_volume w (demand_in d r) (formed d r) some h.0 h.1
 
 slot_counts : (d : Direction) (w : ℕ) (s : Slot) → 1 ≤ volume_of (counted_of d w s) → Counts d s
-slot_counts d w Unreported k = absurd (omega arith)
-slot_counts d w (Reported r) k = volume_counts w (demand_in d r) (formed d r) k
+slot_counts d w None k = absurd (omega arith)
+slot_counts d w (Some r) k = volume_counts w (demand_in d r) (formed d r) k
 
 -- ---- the cycles
 joined_volume : (o : Option Activation) (t : Totals) → (joined o t).volume ≡ t.volume + volume_of o

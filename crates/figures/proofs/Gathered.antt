@@ -5,12 +5,10 @@ use lib.Signed.{lt_z}
 use Rattle.std.proofs.lemmas.Bool.{cond-true, lt-ltb}
 use Rattle.std.proofs.lemmas.Bool.Decides.{nat_tests}
 use Rattle.source.specs.Products.{weight}
-use Rattle.source.specs.Slots.{formed}
+use Rattle.source.specs.Slots.{formed, Slot}
 use Rattle.source.specs.declared.direction.Direction.{Direction}
 use Rattle.source.specs.declared.direction.Direction.TheVariants.{Up, Down}
 use Rattle.source.specs.declared.slot.Reading.{Reading}
-use Rattle.source.specs.declared.slot.Slot.{Slot}
-use Rattle.source.specs.declared.slot.Slot.TheVariants.{Unreported, Reported}
 use Rattle.units.specs.declared.price.Price.{Price}
 use Rattle.figures.specs.Counting.{activation, counted_of, demand_in, formed_of}
 use Rattle.figures.specs.Sides.{Slots, formed_to, counting_to, joined, manual_at, side_of, volume_of, cents_of}
@@ -40,8 +38,8 @@ demand_within Up r = (parts_within r.demand.kw 10_000_000 r.demand.bounded).0
 demand_within Down r = (parts_within r.demand.kw 10_000_000 r.demand.bounded).1
 
 pub counted_proper : (d : Direction) (w : ℕ) (s : Slot) → 1 ≤ w → Proper w (formed_of d s) (counted_of d w s)
-counted_proper d w Unreported some = tt
-counted_proper d w (Reported r) some = activation_proper w (demand_in d r) (formed d r) some (demand_within d r)
+counted_proper d w None some = tt
+counted_proper d w (Some r) some = activation_proper w (demand_in d r) (formed d r) some (demand_within d r)
 
 pub weight_bounds : (k : ℕ) → k < 228 → (1 ≤ weight k) × (weight k ≤ 225)
 weight_bounds k h = grind (arith, nat_tests)

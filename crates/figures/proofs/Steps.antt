@@ -3,11 +3,9 @@ use Rattle.std.proofs.Common.{◌≡◌, ℕ, zero, suc, ◌+◌, ◌*◌, ◌<�
 use borrow.Author.Differences.{ints}
 use Rattle.source.specs.Meanings.{Meaning}
 use Rattle.source.specs.Products.{weight}
-use Rattle.source.specs.Slots.{formed}
+use Rattle.source.specs.Slots.{formed, Slot}
 use Rattle.source.specs.declared.direction.Direction.{Direction}
 use Rattle.source.specs.declared.direction.Direction.TheVariants.{Up, Down}
-use Rattle.source.specs.declared.slot.Slot.{Slot}
-use Rattle.source.specs.declared.slot.Slot.TheVariants.{Unreported, Reported}
 use Rattle.units.specs.declared.price.Price.{Price}
 use Rattle.units.specs.declared.zone_net.ZoneNet.{ZoneNet}
 use Rattle.figures.specs.Counting.{counted_of, counted, formed_of, kw_of, reported}
@@ -27,7 +25,7 @@ use Rattle.figures.proofs.Sound.{CyclesAre}
 
 -- w is the slot k of m
 abbrev pub Is : Slots → ℕ → Weighed → Type 0
-Is m k w = (m k ≡ Reported w.reading) × (w.weight ≡ weight k)
+Is m k w = (m k ≡ Some w.reading) × (w.weight ≡ weight k)
 
 pub blank_tallied : (m : Slots) → Tallied m 0 0 blank
 unfolding net_to formed_to counting_to
@@ -78,8 +76,8 @@ module _ (m : Slots) (k : ℕ) (w : Weighed) (is : Is m k w) where
 
 -- ---- room
 kw_within : (s : Slot) → nat_abs (kw_of s) ≤ 10_000_000
-kw_within Unreported = omega arith
-kw_within (Reported r) = r.demand.bounded
+kw_within None = omega arith
+kw_within (Some r) = r.demand.bounded
 
 pub net_within : (m : Slots) (n : ℕ) → n ≤ 228 → nat_abs (net_to m n) ≤ 2_250_000_000 * n
 unfolding net_to

@@ -1,23 +1,21 @@
 -- Which slots count in a direction, with which volume and price.
 use Rattle.std.specs.Prelude.{◌≡◌, ℕ, zero, suc, ◌*◌, ◌≤◌, Bool, true, false, ℤ, pos, is_some, Some, None, Option}
 use borrow.Author.Differences.{up, down}
-use Rattle.source.specs.Slots.{formed}
+use Rattle.source.specs.Slots.{formed, Slot}
 use Rattle.source.specs.declared.direction.Direction.{Direction}
 use Rattle.source.specs.declared.direction.Direction.TheVariants.{Up, Down}
 use Rattle.source.specs.declared.slot.Reading.{Reading}
-use Rattle.source.specs.declared.slot.Slot.{Slot}
-use Rattle.source.specs.declared.slot.Slot.TheVariants.{Unreported, Reported}
 use Rattle.units.specs.declared.price.Price.{Price}
 use Rattle.figures.specs.declared.side.Activation.{Activation}
 
 abbrev pub reported : Slot → Bool
-reported Unreported = false
-reported (Reported r) = true
+reported None = false
+reported (Some r) = true
 
 -- the demand with its sign
 abbrev pub kw_of : Slot → ℤ
-kw_of Unreported = pos 0
-kw_of (Reported r) = r.demand.kw
+kw_of None = pos 0
+kw_of (Some r) = r.demand.kw
 
 -- the size of the demand in a direction: 0 where it is not in that direction
 abbrev pub demand_in : Direction → Reading → ℕ
@@ -36,14 +34,14 @@ counted d w r = activation w (demand_in d r) (formed d r)
 
 -- the same of a slot
 abbrev pub counted_of : Direction → ℕ → Slot → Option Activation
-counted_of d w Unreported = None
-counted_of d w (Reported r) = counted d w r
+counted_of d w None = None
+counted_of d w (Some r) = counted d w r
 
 abbrev pub formed_of : Direction → Slot → Option Price
-formed_of d Unreported = None
-formed_of d (Reported r) = formed d r
+formed_of d None = None
+formed_of d (Some r) = formed d r
 
 -- a slot counts in a direction: its demand is in that direction, and its price is formed
 abbrev pub Counts : Direction → Slot → Type 0
-Counts d Unreported = ⊥
-Counts d (Reported r) = (1 ≤ demand_in d r) × (is_some (formed d r) ≡ true)
+Counts d None = ⊥
+Counts d (Some r) = (1 ≤ demand_in d r) × (is_some (formed d r) ≡ true)

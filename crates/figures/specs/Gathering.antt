@@ -1,9 +1,8 @@
 -- Whether a source gives figures, and which.
-use Rattle.std.specs.Prelude.{◌≡◌, ℕ, ◌<◌, ◌≤◌, Ok, Err, Option, Result}
+use Rattle.std.specs.Prelude.{◌≡◌, ℕ, ◌<◌, ◌≤◌, Ok, Err, Option, Result, Some, None}
 use Rattle.source.specs.Meanings.{Meaning}
 use Rattle.source.specs.Products.{weight}
 use Rattle.source.specs.declared.direction.Direction.{Direction}
-use Rattle.source.specs.declared.slot.Slot.TheVariants as slot
 use Rattle.figures.specs.Components.{side_in, volume}
 use Rattle.figures.specs.Counting.{Counts}
 use Rattle.figures.specs.Sides.{Given, ReportedTo, Slots}
@@ -20,7 +19,7 @@ use Rattle.figures.specs.declared.tally.Weighed.{Weighed}
 -- k is the first slot that is not reported
 pub record FirstUnreported (m : Slots) (k : ℕ) : Type 0 where
   pub within : k < 228
-  pub here : m k ≡ slot.Unreported
+  pub here : m k ≡ None
   pub before : ReportedTo m k
 
 -- these are the figures of what a source means
@@ -43,8 +42,8 @@ CountsShown m (Err e) = Unit {0}
 
 -- one slot with its weight, or that it is not reported
 abbrev pub Weighs : Slots → ℕ → Result Weighed UnreportedSlot → Type 0
-Weighs m k (Ok w) = (m k ≡ slot.Reported w.reading) × (w.weight ≡ weight k)
-Weighs m k (Err e) = (e.slot ≡ k) × (m k ≡ slot.Unreported)
+Weighs m k (Ok w) = (m k ≡ Some w.reading) × (w.weight ≡ weight k)
+Weighs m k (Err e) = (e.slot ≡ k) × (m k ≡ None)
 
 -- the cycles, or the first that is not reported
 abbrev pub Cycled : Slots → Result Tally UnreportedSlot → Type 0

@@ -4,7 +4,7 @@ use Rattle.source.specs.Meanings.{Meaning}
 use Rattle.source.specs.Products.{weight}
 use Rattle.source.specs.declared.direction.Direction.{Direction}
 use Rattle.source.specs.declared.direction.Direction.TheVariants.{Up, Down}
-use Rattle.source.specs.declared.slot.Slot.{Slot}
+use Rattle.source.specs.Slots.{Slot}
 use Rattle.units.specs.declared.price.Price.{Price}
 use Rattle.units.specs.declared.zone_net.ZoneNet.{ZoneNet}
 use Rattle.figures.specs.Counting.{reported, kw_of, counted_of, formed_of}

@@ -8,7 +8,6 @@ use Rattle.figures.specs.Gathering.{FirstUnreported, Gives}
 use Rattle.figures.specs.Sides.{Given, ReportedTo, Slots}
 use Rattle.figures.specs.declared.quarter_figures.Figures.{Figures}
 use Rattle.source.specs.Meanings.{Meaning}
-use Rattle.source.specs.declared.slot.Slot.TheVariants as slot
 use Rattle.units.proofs.Made.{price_same}
 use Rattle.units.specs.declared.price.Price.{Price}
 use Rattle.pricing.specs.Outcomes.{Outcome, avoided, priced}
@@ -30,7 +29,7 @@ only_figures : (m : Meaning) (f g : Figures) → Gives m f → Gives m g → f �
 only_figures m f g p q = figures_same f g (p.nets ∙ sym q.nets) (p.zones ∙ sym q.zones) (p.saves ∙ sym q.saves) (p.ups ∙ sym q.ups) (p.downs ∙ sym q.downs)
 
 -- a slot that is not reported is not among the reported
-clash : (m : Slots) (n k : ℕ) → ReportedTo m n → k < n → m k ≡ slot.Unreported → ⊥
+clash : (m : Slots) (n k : ℕ) → ReportedTo m n → k < n → m k ≡ None → ⊥
 clash m n k all l e =
     let b = sym (all k l) ∙ ap reported e in
     let z : ◌≡◌ {A = ℕ} 0 1 = cc in

@@ -1,13 +1,12 @@
 -- The first fault of a sheet: its place, and the slots from it on.
-use Rattle.std.proofs.Common.{◌≡◌, ℕ, zero, suc, ◌+◌, ◌<◌, ◌≤◌, Bool, true, false, cond, eqb, ltb, List, [], ◌∷◌, length, get_or, drop, replicate, Ok, Err, Result, refl, ap, ◌∙◌, subst, inl, inr, arith, length-drop}
+use Rattle.std.proofs.Common.{◌≡◌, ℕ, zero, suc, ◌+◌, ◌<◌, ◌≤◌, Bool, true, false, cond, eqb, ltb, List, [], ◌∷◌, length, get_or, drop, replicate, Ok, Err, Result, refl, ap, ◌∙◌, subst, inl, inr, arith, length-drop, None}
 use lib.ListN.{length-replicate}
 use Rattle.std.proofs.lemmas.List.{get_or-replicate, get_or_past}
 use Rattle.std.proofs.lemmas.Bool.Decides.{nat_tests, leb_tells}
 use Rattle.units.specs.declared.price.Price.{Price}
 use Rattle.units.specs.declared.zone_net.ZoneNet.{ZoneNet}
 use Rattle.units.specs.Quantities.{price_of, zone_net_of}
-use Rattle.source.specs.declared.slot.Slot.{Slot}
-use Rattle.source.specs.declared.slot.Slot.TheVariants.{Unreported}
+use Rattle.source.specs.Slots.{Slot}
 use Rattle.sheet.specs.declared.fault.RecordFault.{RecordFault}
 use Rattle.sheet.specs.declared.fault.SheetFault.{SheetFault}
 use Rattle.sheet.specs.declared.fault.SheetFault.TheVariants as sf
@@ -21,24 +20,24 @@ use Rattle.sheet.specs.Rows.{row, Row, step, spot_at}
 use Rattle.sheet.specs.Sheets.{closed, slots_from, slots_after, fault_after, sheet_slots, first_fault}
 use Rattle.sheet.proofs.Places.{either, Lies, FitsNumber, quantity_fits, FitsTold, told_fits}
 
-none_told : (n k : ℕ) → get_or (replicate n Unreported) k Unreported ≡ Unreported
+none_told : (n k : ℕ) → get_or (replicate n None) k None ≡ None
 none_told n k = elim (leb_tells (suc k) n) [
-  | inl h ↦ get_or-replicate n k Unreported Unreported h.1
-  | inr h ↦ get_or_past (replicate n Unreported) k Unreported (omega (arith, h.1, length-replicate n Unreported))
+  | inl h ↦ get_or-replicate n k None None h.1
+  | inr h ↦ get_or_past (replicate n None) k None (omega (arith, h.1, length-replicate n None))
 ]
 
 -- where the slots from i on end in the sheet s, or where their first fault stands, and what it leaves unreported
 abbrev Ended : List ℕ → ℕ → List Slot → Result ℕ RecordFault → Type 0
 Ended s i vs (Ok at) = at ≤ length s
 Ended s i vs (Err f) = (i ≤ (record_spot f).slot) × Lies (record_spot f).slot (length s) (record_number f) (record_spot f)
-    × ((k : ℕ) → (record_spot f).slot ≤ i + k → get_or vs k Unreported ≡ Unreported)
+    × ((k : ℕ) → (record_spot f).slot ≤ i + k → get_or vs k None ≡ None)
 
 pub record Runs (n : ℕ) (s : List ℕ) (i : ℕ) (r : Row) : Type 0 where
   pub counted : length r.0 ≡ n
   pub ended : Ended s i r.0 r.1
 
-later : (slot i : ℕ) (v : Slot) (vs : List Slot) → i + 1 ≤ slot → ((k : ℕ) → slot ≤ i + 1 + k → get_or vs k Unreported ≡ Unreported)
-    → (k : ℕ) → slot ≤ i + k → get_or (v ∷ vs) k Unreported ≡ Unreported
+later : (slot i : ℕ) (v : Slot) (vs : List Slot) → i + 1 ≤ slot → ((k : ℕ) → slot ≤ i + 1 + k → get_or vs k None ≡ None)
+    → (k : ℕ) → slot ≤ i + k → get_or (v ∷ vs) k None ≡ None
 later slot i v vs l h zero e = absurd (omega arith)
 later slot i v vs l h (suc k) e = h k (omega arith)
 
@@ -56,7 +55,7 @@ module _ (n : ℕ) (s : List ℕ) (i at : ℕ) (h : at ≤ length s) where
   step_runs (Err z) rest f k =
       let e : at + length (drop at s) ≡ length s = omega (arith, length-drop at s) in
       record {
-        counted = length-replicate (suc n) Unreported;
+        counted = length-replicate (suc n) None;
         ended = (omega (arith, f.in_slot), record { in_slot = refl; at_end = λ q. f.at_end q ∙ e; inside = λ q. omega (arith, f.inside q, e) }, λ k _. none_told (suc n) k);
       }
 
@@ -72,12 +71,12 @@ Put end f = (fault_number f ≡ 1 → fault_place f ≡ end) × ((fault_number f
 
 abbrev Good : List ℕ → List Slot → Result (Unit {0}) SheetFault → Type 0
 Good s vs (Ok _) = Unit {0}
-Good s vs (Err f) = Put (length s) f × ((k : ℕ) → fault_slot f ≤ k → get_or vs k Unreported ≡ Unreported)
+Good s vs (Err f) = Put (length s) f × ((k : ℕ) → fault_slot f ≤ k → get_or vs k None ≡ None)
 
 closes_good : (s : List ℕ) (vs : List Slot) (at : ℕ) (b : Bool) → length vs ≡ 228 → ltb at (length s) ≡ b → Good s vs (cond b (Err (sf.After at)) (Ok tt))
 closes_good s vs at true l e =
     let h : at < length s = grind (arith, nat_tests) in
-    ((λ q. absurd (omega arith), λ _. h), λ k g. get_or_past vs k Unreported (omega arith))
+    ((λ q. absurd (omega arith), λ _. h), λ k g. get_or_past vs k None (omega arith))
 closes_good s vs at false l e = tt
 
 closed_good : (s : List ℕ) (vs : List Slot) (r : Result ℕ RecordFault) → length vs ≡ 228 → Ended s 0 vs r → Good s vs (closed s r)

@@ -5,8 +5,7 @@ use Rattle.std.proofs.lemmas.Bool.Decides.{nat_tests}
 use Rattle.units.specs.declared.demand.Demand.{Demand}
 use Rattle.units.specs.declared.price.Price.{Price}
 use Rattle.units.specs.Quantities.{demand_of, price_of}
-use Rattle.source.specs.declared.slot.Slot.{Slot}
-use Rattle.source.specs.declared.slot.Slot.TheVariants.{Unreported}
+use Rattle.source.specs.Slots.{Slot}
 use Rattle.sheet.specs.declared.fault.RecordFault.TheVariants as rf
 use Rattle.sheet.specs.declared.fault.Spot.{Spot}
 use Rattle.sheet.specs.Numbers.{quantity, Number, ahead}
@@ -26,7 +25,7 @@ module _ (p : Spot) (s : List ℕ) (h : 0 < length s) where
   led : (lead : ℕ) → get_or s 0 0 ≡ lead → by_lead p (ahead p 1) lead rest ≡ slot_told p s
   led lead e = ap (λ l. by_lead p (ahead p 1) l rest) (sym e) ∙ sym (ap (slot_told p) (first_rest s 0 h))
 
-  pub unreported_led : get_or s 0 0 ≡ 0 → Ok (Unreported, 1) ≡ slot_told p s
+  pub unreported_led : get_or s 0 0 ≡ 0 → Ok (None, 1) ≡ slot_told p s
   unfolding by_lead
   unreported_led e = led 0 e
 

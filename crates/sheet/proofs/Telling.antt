@@ -2,8 +2,7 @@
 use Rattle.std.proofs.Common.{◌≡◌, ℕ, suc, ◌+◌, ◌-◌, ◌<◌, ◌≤◌, Bool, true, false, ltb, List, [], ◌∷◌, ◌++◌, length, take, drop, set, replicate, Some, None, Ok, Err, Result, sym, refl, ap, ◌∙◌, subst, append_assoc, append-nil, arith, length-set, take-append-drop, take_all, drop-set-lt}
 use Rattle.std.proofs.lemmas.List.{drop-drop, drop-replicate, take_more_set}
 use Rattle.std.proofs.lemmas.Bool.Decides.{nat_tests as tells}
-use Rattle.source.specs.declared.slot.Slot.{Slot}
-use Rattle.source.specs.declared.slot.Slot.TheVariants.{Unreported}
+use Rattle.source.specs.Slots.{Slot}
 use Rattle.sheet.specs.declared.fault.RecordFault.{RecordFault}
 use Rattle.sheet.specs.declared.fault.SheetFault.{SheetFault}
 use Rattle.sheet.specs.declared.fault.SheetFault.TheVariants as sf
@@ -18,7 +17,7 @@ pub record Sofar (s : List ℕ) (start : ℕ) (x : Standing) (out : List Slot) :
   pub bytes : x.bytes ≡ s
   pub few : x.slot ≤ 228
   pub size : length out ≡ 228
-  pub rest : drop x.slot out ≡ replicate (228 - x.slot) Unreported
+  pub rest : drop x.slot out ≡ replicate (228 - x.slot) None
   pub so : slots_from s start ≡ prefixed (take x.slot out) (row (228 - x.slot) x.bytes x.slot x.at)
 
 -- all is told, and the verdict is the sheet's
@@ -38,13 +37,13 @@ prefixed_more : (vs : List Slot) (v : Slot) (r : Row) → prefixed vs (prefixed 
 prefixed_more vs v r = ap (λ ws. (ws, r.1)) (sym (append_assoc vs (v ∷ []) r.0))
 
 -- before slot 0 every slot is unreported
-pub first : (x : Standing) (n : ℕ) (out : List Slot) → x.slot ≡ 0 → n ≡ 228 → length out ≡ n → out ≡ replicate n Unreported → Sofar x.bytes x.at x out
+pub first : (x : Standing) (n : ℕ) (out : List Slot) → x.slot ≡ 0 → n ≡ 228 → length out ≡ n → out ≡ replicate n None → Sofar x.bytes x.at x out
 unfolding slots_from
 first x n out z k l e = record {
   bytes = refl;
   few = omega arith;
   size = l ∙ k;
-  rest = ap (drop x.slot) e ∙ (drop-replicate x.slot n Unreported ∙ ap (λ j. replicate j Unreported) (omega arith));
+  rest = ap (drop x.slot) e ∙ (drop-replicate x.slot n None ∙ ap (λ j. replicate j None) (omega arith));
   so = ap (λ i. prefixed (take i out) (row (228 - i) x.bytes i x.at)) (sym z);
 }
 
@@ -106,14 +105,14 @@ module _ (s : List ℕ) (start : ℕ) (x : Standing) (out : List Slot) (f : Sofa
         bytes = f.bytes;
         few = omega arith;
         size = length-set out i g.0 ∙ f.size;
-        rest = drop-set-lt (i + 1) out i g.0 (omega arith) ∙ (sym (drop-drop 1 i out) ∙ (ap (drop 1) f.rest ∙ (drop-replicate 1 (228 - i) Unreported ∙ ap (λ j. replicate j Unreported) (omega arith))));
+        rest = drop-set-lt (i + 1) out i g.0 (omega arith) ∙ (sym (drop-drop 1 i out) ∙ (ap (drop 1) f.rest ∙ (drop-replicate 1 (228 - i) None ∙ ap (λ j. replicate j None) (omega arith))));
         so = opened (Ok g) h e ∙ (prefixed_more (take i out) g.0 r ∙ ap (λ t. prefixed t r) (sym (take_more_set out i g.0 lt)));
       }
 
   told_fault : (z : RecordFault) → x.slot < 228 → found x ≡ Err z → slots_from s start ≡ (out, Err z)
   told_fault z h e =
       let l : suc (228 - (x.slot + 1)) ≡ 228 - x.slot = omega arith in
-      let j : replicate (suc (228 - (x.slot + 1))) Unreported ≡ drop x.slot out = ap (λ j. replicate j Unreported) l ∙ sym f.rest in
+      let j : replicate (suc (228 - (x.slot + 1))) None ≡ drop x.slot out = ap (λ j. replicate j None) l ∙ sym f.rest in
       opened (Err z) h e ∙ ap (λ t. (t, Err z)) (ap (λ t. take x.slot out ++ t) j ∙ take-append-drop x.slot out)
 
   told_all : 228 ≤ x.slot → slots_from s start ≡ (out, Ok x.at)

@@ -4,8 +4,7 @@ use Rattle.std.proofs.lemmas.List.{get_or-drop}
 use Rattle.std.proofs.lemmas.Bool.Decides.{eqb_tells}
 use Rattle.std.specs.List.{between}
 use Rattle.units.specs.Quantities.{demand_of, price_of}
-use Rattle.source.specs.declared.slot.Slot.{Slot}
-use Rattle.source.specs.declared.slot.Slot.TheVariants.{Unreported, Reported}
+use Rattle.source.specs.Slots.{Slot}
 use Rattle.sheet.specs.declared.fault.NumberFault.{NumberFault}
 use Rattle.sheet.specs.declared.fault.Spot.{Spot}
 use Rattle.sheet.specs.Numbers.{quantity}
@@ -14,8 +13,8 @@ use Rattle.sheet.specs.Records.{Told, slot_told, by_lead, pair, onward, reported
 
 -- the lead byte is the one of what is told, and an unreported slot has no other byte
 abbrev LedSlot : ℕ → Slot → ℕ → Type 0
-LedSlot lead Unreported n = (lead ≡ 0) × (n ≡ 1)
-LedSlot lead (Reported r) n = lead ≡ by_prices r.up r.down
+LedSlot lead None n = (lead ≡ 0) × (n ≡ 1)
+LedSlot lead (Some r) n = lead ≡ by_prices r.up r.down
 
 abbrev Led : ℕ → Told → Type 0
 Led lead (Ok g) = LedSlot lead g.0 g.1
@@ -52,10 +51,10 @@ view lead body place = record { lead = lead; body = body; place = place }
 
 slot_view : (s : List ℕ) (at n : ℕ) (v : Slot) → LedSlot (get_or s at 0) v n → view_of v (between (at + 1) (at + n) s) (at + 1) ≡ view_at s at n
 unfolding view
-slot_view s at n Unreported h =
+slot_view s at n None h =
     let z : 0 ≡ (at + n) - (at + 1) = omega (arith, h.1) in
     ap (λ l. view l [] (at + 1)) (sym h.0) ∙ ap (λ k. view (get_or s at 0) (take k (drop (at + 1) s)) (at + 1)) z
-slot_view s at n (Reported r) h = ap (λ l. view l (between (at + 1) (at + n) s) (at + 1)) (sym h)
+slot_view s at n (Some r) h = ap (λ l. view l (between (at + 1) (at + n) s) (at + 1)) (sym h)
 
 pub shown_view : (p : Spot) (s : List ℕ) (at n : ℕ) (v : Slot) → slot_told p (drop at s) ≡ Ok (v, n) → view_of v (between (at + 1) (at + n) s) (at + 1) ≡ view_at s at n
 shown_view p s at n v e =

@@ -3,8 +3,7 @@ use Rattle.std.proofs.Common.{◌≡◌, ℕ, ◌≤◌, List, length, replicate
 use Rattle.units.specs.declared.price.Price.{Price}
 use Rattle.units.specs.declared.zone_net.ZoneNet.{ZoneNet}
 use Rattle.units.specs.Quantities.{no_net}
-use Rattle.source.specs.declared.slot.Slot.{Slot}
-use Rattle.source.specs.declared.slot.Slot.TheVariants.{Unreported}
+use Rattle.source.specs.Slots.{Slot}
 use Rattle.sheet.specs.declared.fault.SheetFault.{SheetFault}
 use Rattle.sheet.specs.declared.head.Head.{Head}
 use Rattle.sheet.specs.Heads.{head_of}
@@ -18,7 +17,7 @@ pub record Holds (s : List ℕ) (vs : List Slot) (net : ZoneNet) (avoided : Opti
   pub avoids : avoided ≡ sheet_avoided s
   pub refuses : r ≡ first_fault s
 
-pub of_fault : (s : List ℕ) (f : SheetFault) (net : ZoneNet) → Err f ≡ head_of s → net ≡ no_net → Holds s (replicate 228 Unreported) net None (Err f)
+pub of_fault : (s : List ℕ) (f : SheetFault) (net : ZoneNet) → Err f ≡ head_of s → net ≡ no_net → Holds s (replicate 228 None) net None (Err f)
 unfolding sheet_slots sheet_net sheet_avoided first_fault slots_after
 of_fault s f net e n = record { tells = ap (slots_after s) e; nets = n ∙ ap net_of e; avoids = ap avoided_of e; refuses = ap (fault_after s) e }
 

@@ -1,8 +1,7 @@
 -- A reader that goes through the records of a sheet.
 use Rattle.std.specs.Prelude.{ℕ, ◌+◌, min, cond, List, [], length, drop, Some, None, Ok, Err, Option, Result, nat_lt, slice_index}
 use Rattle.std.specs.List.{between}
-use Rattle.source.specs.declared.slot.Slot.{Slot}
-use Rattle.source.specs.declared.slot.Slot.TheVariants.{Unreported, Reported}
+use Rattle.source.specs.Slots.{Slot}
 use Rattle.sheet.specs.declared.fault.SheetFault.{SheetFault}
 use Rattle.sheet.specs.declared.fault.SheetFault.TheVariants as sf
 use Rattle.sheet.specs.declared.reader.Reader.{Reader}
@@ -34,8 +33,8 @@ by_prices (Some u) (Some v) = 4
 
 -- the record of what is told, by the prices formed
 abbrev pub view_of : Slot → List ℕ → ℕ → View
-view_of Unreported body place = record { lead = 0; body = []; place = place }
-view_of (Reported r) body place = record { lead = by_prices r.up r.down; body = body; place = place }
+view_of None body place = record { lead = 0; body = []; place = place }
+view_of (Some r) body place = record { lead = by_prices r.up r.down; body = body; place = place }
 
 -- the record of n bytes at the place at of the sheet s
 abbrev pub view_at : List ℕ → ℕ → ℕ → View
@@ -53,7 +52,7 @@ standing r = record { bytes = r.sheet.now; at = r.at; slot = r.slot; told = r.to
 
 -- before slot 0, whose record begins at the place at
 abbrev pub begins : List ℕ → ℕ → Standing
-begins s at = record { bytes = s; at = min at (length s); slot = 0; told = Unreported }
+begins s at = record { bytes = s; at = min at (length s); slot = 0; told = None }
 
 -- what the record tells at which the reader stands
 unfoldable pub found : Standing → Told

@@ -3,8 +3,7 @@ use Rattle.std.specs.Prelude.{ℕ, ◌+◌, cond, List, [], ◌∷◌, Some, Non
 use Rattle.units.specs.declared.demand.Demand.{Demand}
 use Rattle.units.specs.declared.price.Price.{Price}
 use Rattle.units.specs.Quantities.{demand_of, price_of}
-use Rattle.source.specs.declared.slot.Slot.{Slot}
-use Rattle.source.specs.declared.slot.Slot.TheVariants.{Unreported, Reported}
+use Rattle.source.specs.Slots.{Slot}
 use Rattle.sheet.specs.declared.fault.NumberFault.{NumberFault}
 use Rattle.sheet.specs.declared.fault.RecordFault.{RecordFault}
 use Rattle.sheet.specs.declared.fault.RecordFault.TheVariants as rf
@@ -31,7 +30,7 @@ abbrev pub Told : Type 0
 Told = Result (Slot × ℕ) RecordFault
 
 abbrev pub reported_slot : Demand → Option Price → Option Price → Slot
-reported_slot d u v = Reported (record { demand = d; up = u; down = v })
+reported_slot d u v = Some (record { demand = d; up = u; down = v })
 
 -- a demand with the prices formed for it, in n bytes after the lead byte
 abbrev pub reported : Demand → Option Price → Option Price → ℕ → Told
@@ -45,7 +44,7 @@ onward (Err e) f = Err (rf.Number e)
 -- the record at p; s follows its lead byte, and begins at q
 unfoldable pub by_lead : Spot → Spot → ℕ → List ℕ → Told
 by_lead p q lead s =
-    cond (lead == 0) (Ok (Unreported, 1))
+    cond (lead == 0) (Ok (None, 1))
     (cond (lead == 1) (onward (quantity demand_of q s 0) (λ g. reported g.0 None None g.1))
     (cond (lead == 2) (onward (pair q s) (λ g. reported g.0 (Some g.1) None g.2))
     (cond (lead == 3) (onward (pair q s) (λ g. reported g.0 None (Some g.1) g.2))

@@ -1,7 +1,6 @@
 -- The slots of a sheet, one record after another.
-use Rattle.std.specs.Prelude.{ℕ, zero, suc, ◌+◌, List, [], ◌∷◌, ◌++◌, drop, replicate, Ok, Err, Result}
-use Rattle.source.specs.declared.slot.Slot.{Slot}
-use Rattle.source.specs.declared.slot.Slot.TheVariants.{Unreported}
+use Rattle.std.specs.Prelude.{ℕ, zero, suc, ◌+◌, List, [], ◌∷◌, ◌++◌, drop, replicate, Ok, Err, Result, None}
+use Rattle.source.specs.Slots.{Slot}
 use Rattle.sheet.specs.declared.fault.RecordFault.{RecordFault}
 use Rattle.sheet.specs.declared.fault.Spot.{Spot}
 use Rattle.sheet.specs.Records.{slot_told, Told}
@@ -19,7 +18,7 @@ prefixed vs r = (vs ++ r.0, r.1)
 -- one slot, and the k after it; from a fault on, every slot is unreported
 abbrev pub step : ℕ → Told → (ℕ → Row) → Row
 step k (Ok g) rest = prefixed (g.0 ∷ []) (rest g.1)
-step k (Err f) rest = (replicate (suc k) Unreported, Err f)
+step k (Err f) rest = (replicate (suc k) None, Err f)
 
 -- the slots from i on, k of them, whose records begin at the place at of the sheet s
 unfoldable pub row : ℕ → List ℕ → ℕ → ℕ → Row

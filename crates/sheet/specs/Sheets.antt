@@ -3,8 +3,7 @@ use Rattle.std.specs.Prelude.{ℕ, cond, List, length, replicate, None, Ok, Err,
 use Rattle.units.specs.declared.price.Price.{Price}
 use Rattle.units.specs.declared.zone_net.ZoneNet.{ZoneNet}
 use Rattle.units.specs.Quantities.{no_net}
-use Rattle.source.specs.declared.slot.Slot.{Slot}
-use Rattle.source.specs.declared.slot.Slot.TheVariants.{Unreported}
+use Rattle.source.specs.Slots.{Slot}
 use Rattle.source.specs.Meanings.{Meaning}
 use Rattle.sheet.specs.declared.fault.RecordFault.{RecordFault}
 use Rattle.sheet.specs.declared.fault.SheetFault.{SheetFault}
@@ -27,7 +26,7 @@ slots_from s at = row 228 s 0 at
 -- with a fault in the head nothing is told of any slot
 unfoldable pub slots_after : List ℕ → Headed → List Slot
 slots_after s (Ok h) = (slots_from s h.end).0
-slots_after s (Err f) = replicate 228 Unreported
+slots_after s (Err f) = replicate 228 None
 
 abbrev pub fault_after : List ℕ → Headed → Result (Unit {0}) SheetFault
 fault_after s (Ok h) = closed s (slots_from s h.end).1
@@ -57,4 +56,4 @@ sheet_avoided s = avoided_of (head_of s)
 
 -- what the bytes s tell as a price source
 abbrev pub sheet_meaning : List ℕ → Meaning
-sheet_meaning s = record { slots = λ k. slice_index_or (sheet_slots s) k Unreported; zone = sheet_net s; avoided = sheet_avoided s }
+sheet_meaning s = record { slots = λ k. slice_index_or (sheet_slots s) k None; zone = sheet_net s; avoided = sheet_avoided s }

@@ -1,8 +1,7 @@
 -- Netting fill: the avoided value as the price of a cycle whose demand was met by netting.
 use Rattle.std.specs.Prelude.{Bool, true, false, cond, pos, Some, None, Option, int_lt, nat_lt}
 use Rattle.source.specs.Meanings.{Meaning}
-use Rattle.source.specs.declared.slot.Slot.{Slot}
-use Rattle.source.specs.declared.slot.Slot.TheVariants.{Unreported, Reported}
+use Rattle.source.specs.Slots.{Slot}
 use Rattle.units.specs.declared.price.Price.{Price}
 
 -- the price formed, or else the avoided value where there is demand in its direction
@@ -12,8 +11,8 @@ filled_price true None value = value
 filled_price false None value = None
 
 abbrev pub fill_slot : Option Price → Slot → Slot
-fill_slot value Unreported = Unreported
-fill_slot value (Reported r) = Reported (record {
+fill_slot value None = None
+fill_slot value (Some r) = Some (record {
   demand = r.demand;
   up = filled_price (int_lt (pos 0) r.demand.kw) r.up value;
   down = filled_price (int_lt r.demand.kw (pos 0)) r.down value;

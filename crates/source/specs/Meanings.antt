@@ -1,7 +1,7 @@
 -- The meaning of a price source: its 228 slots, its zone net and its avoided value.
 use Rattle.std.specs.Prelude.{ℕ, cond, Ok, Err, Option, Result, nat_lt}
 use Rattle.source.specs.declared.slot.NoSuchSlot.{NoSuchSlot}
-use Rattle.source.specs.declared.slot.Slot.{Slot}
+use Rattle.source.specs.Slots.{Slot}
 use Rattle.units.specs.declared.price.Price.{Price}
 use Rattle.units.specs.declared.zone_net.ZoneNet.{ZoneNet}
 

@@ -1,8 +1,7 @@
 -- What rows of plain numbers tell.
 use Rattle.std.specs.Prelude.{cond, List, length, ℤ, pos, Some, None, Ok, Err, Option, Result, nat_lt, slice_index_or}
 use Rattle.source.specs.Meanings.{Meaning}
-use Rattle.source.specs.declared.slot.Slot.{Slot}
-use Rattle.source.specs.declared.slot.Slot.TheVariants.{Unreported, Reported}
+use Rattle.source.specs.Slots.{Slot}
 use Rattle.source.specs.declared.table.Row.{Row}
 use Rattle.units.specs.Quantities.{demand_of, price_of}
 use Rattle.units.specs.declared.bounds.OutOfBounds.{OutOfBounds}
@@ -21,10 +20,10 @@ price_if_any (Some z) = present (price_of z)
 
 -- a row with any number out of bounds is unreported
 abbrev pub slot_with : Result Demand OutOfBounds → Result (Option Price) OutOfBounds → Result (Option Price) OutOfBounds → Slot
-slot_with (Err e) u w = Unreported
-slot_with (Ok d) (Err e) w = Unreported
-slot_with (Ok d) (Ok u) (Err e) = Unreported
-slot_with (Ok d) (Ok u) (Ok w) = Reported (record { demand = d; up = u; down = w })
+slot_with (Err e) u w = None
+slot_with (Ok d) (Err e) w = None
+slot_with (Ok d) (Ok u) (Err e) = None
+slot_with (Ok d) (Ok u) (Ok w) = Some (record { demand = d; up = u; down = w })
 
 abbrev pub row_slot : Row → Slot
 row_slot r = slot_with (demand_of r.demand) (price_if_any r.up) (price_if_any r.down)
@@ -34,4 +33,4 @@ no_row = record { demand = pos 0; up = None; down = None }
 
 -- a row for each slot from 0 on; a missing one is unreported
 abbrev pub table_meaning : List Row → ZoneNet → Option Price → Meaning
-table_meaning rows net value = record { slots = λ k. cond (nat_lt k (length rows)) (row_slot (slice_index_or rows k no_row)) Unreported; zone = net; avoided = value }
+table_meaning rows net value = record { slots = λ k. cond (nat_lt k (length rows)) (row_slot (slice_index_or rows k no_row)) None; zone = net; avoided = value }

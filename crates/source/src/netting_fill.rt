@@ -3,7 +3,7 @@ ghost use Rattle.std.specs.Prelude.{◌≡◌};
 ghost use Rattle.source.specs.Fills.{fill_slot, filled_meaning, filled_price};
 
 use crate::price_source::PriceSource;
-use crate::product::{Product, product_of};
+use crate::product::Product;
 use crate::slot::{NoSuchSlot, Reading, Slot};
 use units::price::Price;
 use units::zone_net::ZoneNet;
@@ -11,27 +11,20 @@ use units::zone_net::ZoneNet;
 fn filled_price(wanted: bool, formed: Option<Price>, avoided: Option<Price>) -> Option<Price>
     ensures { result ≡ filled_price wanted formed avoided }
 {
-    match formed {
-        Some(price) => Some(price),
-        None if wanted => avoided,
-        None => None,
-    }
+    if wanted { formed.or(avoided) } else { formed }
 }
 
 fn fill_slot(avoided: Option<Price>, slot: Slot) -> Slot
     ensures { result ≡ fill_slot avoided slot }
 {
-    match slot {
-        Slot::Unreported => Slot::Unreported,
-        Slot::Reported(reading) => {
-            let kw = reading.demand.kw();
-            Slot::Reported(Reading {
-                demand: reading.demand,
-                up: filled_price(kw > 0, reading.up, avoided),
-                down: filled_price(kw < 0, reading.down, avoided),
-            })
+    slot.map(|reading| {
+        let kw = reading.demand.kw();
+        Reading {
+            demand: reading.demand,
+            up: filled_price(kw > 0, reading.up, avoided),
+            down: filled_price(kw < 0, reading.down, avoided),
         }
-    }
+    })
 }
 
 /// What the source below tells, with the avoided value as the price of each cycle that has demand in a
@@ -46,7 +39,7 @@ impl<S: PriceSource> PriceSource for NettingFill<S> {
 
     fn slot(&self, slot: usize) -> Result<Slot, NoSuchSlot> {
         let told = self.below.slot(slot)?;
-        match product_of(slot) {
+        match Product::try_from(slot) {
             Ok(Product::Automatic) => Ok(fill_slot(self.below.avoided(), told)),
             _ => Ok(told),
         }

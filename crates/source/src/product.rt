@@ -13,16 +13,19 @@ pub enum Product {
     DirectDown,
 }
 
-/// The product of a slot.
-pub fn product_of(slot: usize) -> Result<Product, NoSuchSlot>
-    ensures { result ≡ product_of slot }
-{
-    match slot {
-        0..=224 => Ok(Product::Automatic),
-        225 => Ok(Product::Scheduled),
-        226 => Ok(Product::DirectUp),
-        227 => Ok(Product::DirectDown),
-        _ => Err(NoSuchSlot { slot }),
+impl TryFrom<usize> for Product {
+    type Error = NoSuchSlot;
+
+    ghost try_from_gives = { λ slot r. r ≡ product_of slot };
+
+    fn try_from(slot: usize) -> Result<Product, NoSuchSlot> {
+        match slot {
+            0..=224 => Ok(Product::Automatic),
+            225 => Ok(Product::Scheduled),
+            226 => Ok(Product::DirectUp),
+            227 => Ok(Product::DirectDown),
+            _ => Err(NoSuchSlot { slot }),
+        }
     }
 }
 

@@ -6,6 +6,7 @@ ghost use Rattle.source.specs.Refusals.{slot_number, slot_place};
 use crate::direction::Direction;
 use units::demand::Demand;
 use units::price::Price;
+use units::refusal::Refusal;
 
 /// The slots of a quarter.
 pub const SLOTS: usize = 228;
@@ -30,11 +31,8 @@ impl Reading {
     }
 }
 
-#[derive(Clone, Copy)]
-pub enum Slot {
-    Unreported,
-    Reported(Reading),
-}
+/// A reading, or nothing where the slot is unreported.
+pub type Slot = Option<Reading>;
 
 /// A slot number above 227.
 #[derive(Clone, Copy, PartialEq, Eq, Debug)]
@@ -42,16 +40,16 @@ pub struct NoSuchSlot {
     pub slot: usize,
 }
 
-impl NoSuchSlot {
-    pub fn number(self) -> u16
-        ensures { result ≡ slot_number self }
-    {
+impl Refusal for NoSuchSlot {
+    ghost number = { slot_number };
+
+    ghost place = { slot_place };
+
+    fn number(self) -> u16 {
         16
     }
 
-    pub fn place(self) -> usize
-        ensures { result ≡ slot_place self }
-    {
+    fn place(self) -> usize {
         self.slot
     }
 }

@@ -21,13 +21,7 @@ pub struct Row {
 fn price_if_any(cents: Option<i64>) -> Result<Option<Price>, OutOfBounds>
     ensures { result ≡ price_if_any cents }
 {
-    match cents {
-        None => Ok(None),
-        Some(cents) => match Price::new(cents) {
-            Ok(price) => Ok(Some(price)),
-            Err(fault) => Err(fault),
-        },
-    }
+    cents.map(Price::new).transpose()
 }
 
 impl Row {
@@ -35,16 +29,10 @@ impl Row {
     pub fn slot(self) -> Slot
         ensures { result ≡ row_slot self }
     {
-        let Ok(demand) = Demand::new(self.demand) else {
-            return Slot::Unreported;
-        };
-        let Ok(up) = price_if_any(self.up) else {
-            return Slot::Unreported;
-        };
-        let Ok(down) = price_if_any(self.down) else {
-            return Slot::Unreported;
-        };
-        Slot::Reported(Reading { demand, up, down })
+        let demand = Demand::new(self.demand).ok()?;
+        let up = price_if_any(self.up).ok()?;
+        let down = price_if_any(self.down).ok()?;
+        Some(Reading { demand, up, down })
     }
 }
 
@@ -63,11 +51,7 @@ impl PriceSource for Table<'_> {
         if slot >= SLOTS {
             return Err(NoSuchSlot { slot });
         }
-        if slot < self.rows.len() {
-            Ok(self.rows[slot].slot())
-        } else {
-            Ok(Slot::Unreported)
-        }
+        Ok(self.rows.get(slot).and_then(|row| row.slot()))
     }
 
     fn zone_net(&self) -> ZoneNet {

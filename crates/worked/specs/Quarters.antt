@@ -3,7 +3,6 @@ use Rattle.std.specs.Prelude.{ℕ, cond, T, ℤ, pos, negsuc, Some, None, Option
 use Rattle.std.proofs.Common.{leb→le}
 use Rattle.source.specs.Meanings.{Meaning}
 use Rattle.source.specs.declared.slot.Reading.{Reading}
-use Rattle.source.specs.declared.slot.Slot.TheVariants.{Reported}
 use Rattle.units.specs.declared.demand.Demand.{Demand}
 use Rattle.units.specs.declared.price.Price.{Price}
 use Rattle.units.specs.declared.zone_net.ZoneNet.{ZoneNet}
@@ -29,7 +28,7 @@ downward d p = record { demand = d; up = None; down = Some p }
 
 -- a quarter whose slots are all reported
 abbrev pub quarter : (ℕ → Reading) → ZoneNet → Option Price → Meaning
-quarter readings net value = record { slots = λ k. Reported (readings k); zone = net; avoided = value }
+quarter readings net value = record { slots = λ k. Some (readings k); zone = net; avoided = value }
 
 -- cycles at 100,000 kW, a third of them each at 200, 400 and 700; 300,000 kW scheduled at 100, 100,000 kW direct at 1000
 abbrev pub three_levels : Meaning

@@ -1,11 +1,10 @@
 -- A row of slots is read back as it was written, and was written in the one form that is read.
-use Rattle.std.proofs.Common.{◌≡◌, ℕ, zero, suc, ◌+◌, ◌<◌, List, [], ◌∷◌, ◌++◌, length, get_or, drop, Ok, Err, Result, sym, refl, ap, ◌∙◌, append_assoc, append-nil, arith, length-append}
+use Rattle.std.proofs.Common.{◌≡◌, ℕ, zero, suc, ◌+◌, ◌<◌, List, [], ◌∷◌, ◌++◌, length, get_or, drop, Ok, Err, Result, sym, refl, ap, ◌∙◌, append_assoc, append-nil, arith, length-append, None}
 use lib.ListN.{length-replicate}
 use Rattle.std.proofs.ByRecursion.{All-drop}
 use Rattle.std.proofs.lemmas.List.{drop_at, drop-drop, same_lists, get_or_default}
 use Rattle.std.specs.List.{flat_map, AllByRecursion}
-use Rattle.source.specs.declared.slot.Slot.{Slot}
-use Rattle.source.specs.declared.slot.Slot.TheVariants.{Unreported}
+use Rattle.source.specs.Slots.{Slot}
 use Rattle.sheet.specs.declared.fault.RecordFault.{RecordFault}
 use Rattle.sheet.specs.Records.{slot_told, Told}
 use Rattle.sheet.specs.Rows.{row, Row, step, prefixed, spot_at}
@@ -32,10 +31,10 @@ pub get_or_slots : (m : ℕ → Slot) (k j : ℕ) (d : Slot) → j < k → get_o
 get_or_slots m k j d h = slots_at m 0 k j d h ∙ ap m (omega arith)
 
 -- a list of k slots, each the one of its place
-pub slots_same : (m : ℕ → Slot) (k : ℕ) (vs : List Slot) → length vs ≡ k → ((j : ℕ) → j < k → get_or vs j Unreported ≡ m j) → vs ≡ slots_of m 0 k
+pub slots_same : (m : ℕ → Slot) (k : ℕ) (vs : List Slot) → length vs ≡ k → ((j : ℕ) → j < k → get_or vs j None ≡ m j) → vs ≡ slots_of m 0 k
 slots_same m k vs l h =
     same_lists vs (slots_of m 0 k) (l ∙ sym (length_slots m 0 k))
-    (λ j d i. get_or_default vs j d Unreported i ∙ (h j (omega arith) ∙ sym (get_or_slots m k j d (omega arith))))
+    (λ j d i. get_or_default vs j d None i ∙ (h j (omega arith) ∙ sym (get_or_slots m k j d (omega arith))))
 
 rows_joined : (m : ℕ → Slot) (i k : ℕ) → row_bytes m i ++ flat_map slot_bytes (slots_of m i k) ≡ row_bytes m (i + k)
 unfolding row_bytes slots_of
@@ -97,7 +96,7 @@ row_stood (suc k) s i at b =
 
 step_counted : (k : ℕ) (t : Told) (rest : ℕ → Row) → ((n : ℕ) → length (rest n).0 ≡ k) → length (step k t rest).0 ≡ suc k
 step_counted k (Ok g) rest h = ap suc (h g.1)
-step_counted k (Err f) rest h = length-replicate (suc k) Unreported
+step_counted k (Err f) rest h = length-replicate (suc k) None
 
 -- with a fault too, k slots are told
 pub row_counted : (k : ℕ) (s : List ℕ) (i at : ℕ) → length (row k s i at).0 ≡ k

@@ -6,8 +6,7 @@ use Rattle.std.specs.List.{AllByRecursion}
 use Rattle.units.specs.declared.demand.Demand.{Demand}
 use Rattle.units.specs.declared.price.Price.{Price}
 use Rattle.units.specs.Quantities.{demand_of, price_of}
-use Rattle.source.specs.declared.slot.Slot.{Slot}
-use Rattle.source.specs.declared.slot.Slot.TheVariants.{Unreported, Reported}
+use Rattle.source.specs.Slots.{Slot}
 use Rattle.sheet.specs.declared.fault.NumberFault.{NumberFault}
 use Rattle.sheet.specs.declared.fault.Spot.{Spot}
 use Rattle.sheet.specs.Numbers.{quantity, ahead, Number}
@@ -68,8 +67,8 @@ reading_back p d (Some u) (Some v) rest =
 -- what was written of a slot is read back, whatever follows it
 pub slot_back : (p : Spot) (v : Slot) (rest : List ℕ) → slot_told p (slot_bytes v ++ rest) ≡ Ok (v, length (slot_bytes v))
 unfolding by_lead
-slot_back p Unreported rest = refl
-slot_back p (Reported r) rest = reading_back p r.demand r.up r.down rest
+slot_back p None rest = refl
+slot_back p (Some r) rest = reading_back p r.demand r.up r.down rest
 
 -- the two numbers that were read stood there as they are written
 abbrev Paired : List ℕ → Pair → Type 0

@@ -4,7 +4,7 @@ use Rattle.std.proofs.lemmas.List.{take_at}
 use Rattle.std.proofs.lemmas.Bool.Decides.{nat_tests}
 use Rattle.sheet.specs.Heads.{opening}
 use Rattle.source.specs.Meanings.{Meaning}
-use Rattle.source.specs.declared.slot.Slot.{Slot}
+use Rattle.source.specs.Slots.{Slot}
 use Rattle.writing.specs.Bytes.{avoided_bytes, head_bytes, number_bytes, row_bytes, sheet_bytes, slot_bytes}
 use Rattle.writing.specs.Writes.{left, over, written}
 use Rattle.writing.proofs.Numbers.{over_nothing}

@@ -4,8 +4,7 @@ use Rattle.sheet.specs.Heads.{opening}
 use Rattle.sheet.specs.Readers.{by_prices}
 use Rattle.source.specs.Meanings.{Meaning}
 use Rattle.source.specs.declared.slot.Reading.{Reading}
-use Rattle.source.specs.declared.slot.Slot.{Slot}
-use Rattle.source.specs.declared.slot.Slot.TheVariants.{Unreported, Reported}
+use Rattle.source.specs.Slots.{Slot}
 use Rattle.units.specs.declared.price.Price.{Price}
 
 -- n is stored as 2n, and -n - 1 as 2n + 1
@@ -33,8 +32,8 @@ abbrev pub reading_bytes : Reading → List ℕ
 reading_bytes r = by_prices r.up r.down ∷ (number_bytes r.demand.kw ++ (price_bytes r.up ++ price_bytes r.down))
 
 abbrev pub slot_bytes : Slot → List ℕ
-slot_bytes Unreported = 0 ∷ []
-slot_bytes (Reported r) = reading_bytes r
+slot_bytes None = 0 ∷ []
+slot_bytes (Some r) = reading_bytes r
 
 -- the first n slots
 unfoldable pub row_bytes : (ℕ → Slot) → ℕ → List ℕ

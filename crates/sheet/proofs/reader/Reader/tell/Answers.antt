@@ -1,13 +1,12 @@
-use Rattle.std.proofs.Common.{◌≡◌, length, replicate, Ok, sym, ap, ◌∙◌, rules}
+use Rattle.std.proofs.Common.{◌≡◌, length, replicate, Ok, sym, ap, ◌∙◌, rules, Some, None}
 use Rattle.std.proofs.lemmas.Result.{err_from_is_err_and}
-use Rattle.source.specs.declared.slot.Slot.TheVariants.{Unreported}
 use Rattle.sheet.specs.Readers.{standing, seen, shown_of}
 use Rattle.sheet.proofs.Telling.{first, shown_more, shown_fault, shown_end}
 use Rattle.sheet.proofs.reader.Reader.tell.Goals as goal
 
 pub loop-slots-init : goal.loop-slots-init
 loop-slots-init c =
-    let e : c.fill.new.self ≡ replicate (length c.args.slots.now) Unreported = search rules in
+    let e : c.fill.new.self ≡ replicate (length c.args.slots.now) None = search rules in
     first (standing c.args.self.now) (length c.args.slots.now) c.fill.new.self c.requires.0 c.requires.1 c.fill.ensures.len e
 
 pub returns-in_err-next : goal.returns-in_err-next
