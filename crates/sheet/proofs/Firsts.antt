@@ -20,10 +20,10 @@ use Rattle.sheet.specs.Rows.{row, Row, step, spot_at}
 use Rattle.sheet.specs.Sheets.{closed, slots_from, slots_after, fault_after, sheet_slots, first_fault}
 use Rattle.sheet.proofs.Places.{either, Lies, FitsNumber, quantity_fits, FitsTold, told_fits}
 
-none_told : (n k : ℕ) → get_or (replicate n None) k None ≡ None
+none_told : (n k : ℕ) → ◌≡◌ {A = Slot} (get_or (replicate n None) k None) None
 none_told n k = elim (leb_tells (suc k) n) [
   | inl h ↦ get_or-replicate n k None None h.1
-  | inr h ↦ get_or_past (replicate n None) k None (omega (arith, h.1, length-replicate n None))
+  | inr h ↦ get_or_past (replicate n None) k None (omega (arith, h.1, length-replicate {A = Slot} n None))
 ]
 
 -- where the slots from i on end in the sheet s, or where their first fault stands, and what it leaves unreported

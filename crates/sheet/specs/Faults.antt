@@ -19,6 +19,9 @@ number_spot (nf.Ends p) = p
 number_spot (nf.Form p) = p
 number_spot (nf.Bounds p) = p
 
+abbrev pub number_place : NumberFault → ℕ
+number_place f = (number_spot f).place
+
 -- 4 an unknown lead byte
 abbrev pub record_number : RecordFault → ℕ
 record_number (rf.Number f) = number_number f
@@ -29,6 +32,9 @@ abbrev pub record_spot : RecordFault → Spot
 record_spot (rf.Number f) = number_spot f
 record_spot (rf.Ends p) = p
 record_spot (rf.Lead p) = p
+
+abbrev pub record_place : RecordFault → ℕ
+record_place f = (record_spot f).place
 
 -- 2 a wrong byte of the opening, 4 a head flag neither 0 nor 1, 6 bytes after the last slot
 abbrev pub fault_number : SheetFault → ℕ
@@ -43,8 +49,8 @@ abbrev pub fault_place : SheetFault → ℕ
 fault_place (sf.Ends at) = at
 fault_place (sf.Opening at) = at
 fault_place (sf.Flag at) = at
-fault_place (sf.Head f) = (number_spot f).place
-fault_place (sf.Slot f) = (record_spot f).place
+fault_place (sf.Head f) = number_place f
+fault_place (sf.Slot f) = record_place f
 fault_place (sf.After at) = at
 
 -- the head, and what comes after the last slot, go by 228

@@ -1,10 +1,11 @@
 // The faults of a sheet: one in a number stands whole in its record's, and that in the sheet's.
 ghost use Rattle.std.specs.Prelude.{◌≡◌};
-ghost use Rattle.sheet.specs.Faults.{number_spot, number_number, record_spot, record_number, fault_number, fault_place, fault_slot};
+ghost use Rattle.sheet.specs.Faults.{number_spot, number_number, number_place, record_spot, record_number, record_place, fault_number, fault_place, fault_slot};
 ghost use Rattle.sheet.specs.declared.fault.RecordFault.TheVariants.{Number};
 ghost use Rattle.sheet.specs.declared.fault.SheetFault.TheVariants.{Head, Slot};
 
 use source::slot::SLOTS;
+use units::refusal::Refusal;
 
 /// The slot number that is given for a byte of the head, and after the last slot.
 pub const HEAD: usize = SLOTS;
@@ -67,10 +68,12 @@ impl From<RecordFault> for SheetFault {
     }
 }
 
-impl NumberFault {
-    pub fn number(self) -> u16
-        ensures { result ≡ number_number self }
-    {
+impl Refusal for NumberFault {
+    ghost number = { number_number };
+
+    ghost place = { number_place };
+
+    fn number(self) -> u16 {
         match self {
             NumberFault::Ends(_) => 1,
             NumberFault::Form(_) => 3,
@@ -78,6 +81,12 @@ impl NumberFault {
         }
     }
 
+    fn place(self) -> usize {
+        self.spot().place
+    }
+}
+
+impl NumberFault {
     /// The number's first byte, or the sheet's end.
     pub fn spot(self) -> Spot
         ensures { result ≡ number_spot self }
@@ -88,10 +97,12 @@ impl NumberFault {
     }
 }
 
-impl RecordFault {
-    pub fn number(self) -> u16
-        ensures { result ≡ record_number self }
-    {
+impl Refusal for RecordFault {
+    ghost number = { record_number };
+
+    ghost place = { record_place };
+
+    fn number(self) -> u16 {
         match self {
             RecordFault::Number(fault) => fault.number(),
             RecordFault::Ends(_) => 1,
@@ -99,6 +110,12 @@ impl RecordFault {
         }
     }
 
+    fn place(self) -> usize {
+        self.spot().place
+    }
+}
+
+impl RecordFault {
     pub fn spot(self) -> Spot
         ensures { result ≡ record_spot self }
     {
@@ -109,11 +126,12 @@ impl RecordFault {
     }
 }
 
-impl SheetFault {
-    /// The refusal's number, 1 to 6.
-    pub fn number(self) -> u16
-        ensures { result ≡ fault_number self }
-    {
+impl Refusal for SheetFault {
+    ghost number = { fault_number };
+
+    ghost place = { fault_place };
+
+    fn number(self) -> u16 {
         match self {
             SheetFault::Ends { .. } => 1,
             SheetFault::Opening { .. } => 2,
@@ -124,20 +142,19 @@ impl SheetFault {
         }
     }
 
-    /// The byte's place, counted from 0.
-    pub fn place(self) -> usize
-        ensures { result ≡ fault_place self }
-    {
+    fn place(self) -> usize {
         match self {
             SheetFault::Ends { place }
             | SheetFault::Opening { place }
             | SheetFault::Flag { place }
             | SheetFault::After { place } => place,
-            SheetFault::Head(fault) => fault.spot().place,
-            SheetFault::Slot(fault) => fault.spot().place,
+            SheetFault::Head(fault) => fault.place(),
+            SheetFault::Slot(fault) => fault.place(),
         }
     }
+}
 
+impl SheetFault {
     /// The slot in which the fault stands.
     pub fn slot(self) -> usize
         ensures { result ≡ fault_slot self }

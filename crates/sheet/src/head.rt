@@ -3,7 +3,7 @@ ghost use Rattle.std.specs.Prelude.{◌≡◌, ◌≤◌, length, IfOk, OnOk};
 ghost use Rattle.sheet.specs.Heads.{opens, opening, avoided_at, head_of};
 
 use crate::fault::{HEAD, SheetFault, Spot};
-use crate::number::read_quantity;
+use crate::part::Part;
 use units::price::Price;
 use units::zone_net::ZoneNet;
 
@@ -18,16 +18,22 @@ pub struct Head {
     pub end: usize,
 }
 
+// The head's bytes go by the place in the sheet.
+const FRONT: Spot = Spot {
+    place: 0,
+    slot: HEAD,
+};
+
 // Byte by byte, so that the first wrong or missing one is found.
 fn check_opening(sheet: &[u8]) -> Result<(), SheetFault>
     ensures checks { result ≡ opens 0 opening sheet.now }
     ensures long { OnOk result (4 ≤ length sheet.now) }
 {
-    for place in 0..OPENING.len() {
-        if place >= sheet.len() {
+    for (place, wanted) in OPENING.iter().enumerate() {
+        let Some(byte) = sheet.get(place) else {
             return Err(SheetFault::Ends { place });
-        }
-        if sheet[place] != OPENING[place] {
+        };
+        if *byte != *wanted {
             return Err(SheetFault::Opening { place });
         }
     }
@@ -39,23 +45,18 @@ fn read_avoided(sheet: &[u8], at: usize) -> Result<(Option<Price>, usize), Sheet
     ensures reads { result ≡ avoided_at sheet.now at }
     ensures within { IfOk result (λ p. p.1 ≤ length sheet.now) }
 {
-    if at >= sheet.len() {
-        return Err(SheetFault::Ends { place: sheet.len() });
-    }
-    match sheet[at] {
-        0 => Ok((None, at + 1)),
-        1 => {
-            let (price, end) = read_quantity(
-                sheet,
-                at + 1,
-                Spot {
-                    place: 0,
-                    slot: HEAD,
-                },
-            )?;
+    match sheet.get(at) {
+        None => Err(SheetFault::Ends { place: sheet.len() }),
+        Some(0) => Ok((None, at + 1)),
+        Some(1) => {
+            let part = Part {
+                bytes: sheet,
+                start: FRONT,
+            };
+            let (price, end) = part.quantity(at + 1)?;
             Ok((Some(price), end))
         }
-        _ => Err(SheetFault::Flag { place: at }),
+        Some(_) => Err(SheetFault::Flag { place: at }),
     }
 }
 
@@ -66,14 +67,11 @@ impl Head {
         ensures within { IfOk result (λ h. h.end ≤ length sheet.now) }
     {
         check_opening(sheet)?;
-        let (zone_net, at) = read_quantity(
-            sheet,
-            4,
-            Spot {
-                place: 0,
-                slot: HEAD,
-            },
-        )?;
+        let part = Part {
+            bytes: sheet,
+            start: FRONT,
+        };
+        let (zone_net, at) = part.quantity(OPENING.len())?;
         let (avoided, end) = read_avoided(sheet, at)?;
         Ok(Head {
             zone_net,

@@ -4,6 +4,7 @@
 pub mod fault;
 pub mod head;
 mod number;
+mod part;
 pub mod reader;
 pub mod reading;
 pub mod sheet;

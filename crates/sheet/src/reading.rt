@@ -5,8 +5,9 @@ ghost use Rattle.sheet.specs.Sheets.{slots_from, closed};
 
 use crate::fault::{SheetFault, Spot};
 use crate::head::Head;
+use crate::part::Part;
 use crate::reader::Reader;
-use crate::slot_record::{Record, read_slot, record_of};
+use crate::slot_record::{Record, record_of};
 use source::slot::{SLOTS, Slot};
 
 impl<'a> Reader<'a> {
@@ -14,16 +15,11 @@ impl<'a> Reader<'a> {
     pub fn after(sheet: &'a [u8], head: Head) -> Reader<'a>
         ensures { standing result ≡ begins sheet.now head.end }
     {
-        let at = if head.end < sheet.len() {
-            head.end
-        } else {
-            sheet.len()
-        };
         Reader {
             sheet,
-            at,
+            at: head.end.min(sheet.len()),
             slot: 0,
-            told: Slot::Unreported,
+            told: None,
         }
     }
 
@@ -39,11 +35,14 @@ impl<'a> Reader<'a> {
             }
             return Ok(None);
         }
-        let spot = Spot {
-            place: at,
-            slot: self.slot,
+        let rest = Part {
+            bytes: &self.sheet[at..],
+            start: Spot {
+                place: at,
+                slot: self.slot,
+            },
         };
-        let (told, size) = read_slot(&self.sheet[at..], spot)?;
+        let (told, size) = rest.record()?;
         let record = record_of(told, &self.sheet[at + 1..at + size], at + 1);
         self.told = told;
         self.at = at + size;
@@ -57,7 +56,7 @@ impl<'a> Reader<'a> {
         ensures tells { slots.new ≡ (slots_from self.old.sheet.now self.old.at).0 }
         ensures refuses { result ≡ closed self.old.sheet.now (slots_from self.old.sheet.now self.old.at).1 }
     {
-        slots.fill(Slot::Unreported);
+        slots.fill(None);
         while let Some(_) = self.next()? {
             slots[self.slot - 1] = self.told;
         }

@@ -30,7 +30,7 @@ impl<'a> Sheet<'a> {
     pub fn read(bytes: &'a [u8]) -> Sheet<'a>
         ensures { result.bytes.now ≡ bytes.now }
     {
-        let mut slots = [Slot::Unreported; SLOTS];
+        let mut slots = [None; SLOTS];
         let head = match Head::read(bytes) {
             Ok(head) => head,
             Err(fault) => {
@@ -67,11 +67,7 @@ impl PriceSource for Sheet<'_> {
     ghost means = { λ s. sheet_meaning s.bytes.now };
 
     fn slot(&self, slot: usize) -> Result<Slot, NoSuchSlot> {
-        if slot < SLOTS {
-            Ok(self.slots[slot])
-        } else {
-            Err(NoSuchSlot { slot })
-        }
+        self.slots.get(slot).copied().ok_or(NoSuchSlot { slot })
     }
 
     fn zone_net(&self) -> ZoneNet {

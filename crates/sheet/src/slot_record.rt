@@ -1,10 +1,10 @@
 // The record of one slot.
-ghost use Rattle.std.specs.Prelude.{◌≡◌, ◌+◌, ◌^◌, ◌<◌, ◌≤◌, length, IfOk};
+ghost use Rattle.std.specs.Prelude.{◌≡◌, ◌≤◌, length, IfOk};
 ghost use Rattle.sheet.specs.Records.{pair, reported_slot, slot_told};
 ghost use Rattle.sheet.specs.Readers.{seen, view_of};
 
 use crate::fault::{NumberFault, RecordFault, Spot};
-use crate::number::read_quantity;
+use crate::part::Part;
 use source::slot::{Reading, Slot};
 use units::demand::Demand;
 use units::price::Price;
@@ -24,7 +24,7 @@ pub enum Record<'a> {
 pub(crate) fn record_of<'a>(slot: Slot, body: &'a [u8], place: usize) -> Record<'a>
     ensures { seen result ≡ view_of slot body.now place }
 {
-    let Slot::Reported(reading) = slot else {
+    let Some(reading) = slot else {
         return Record::Unreported { place };
     };
     match (reading.up, reading.down) {
@@ -35,55 +35,58 @@ pub(crate) fn record_of<'a>(slot: Slot, body: &'a [u8], place: usize) -> Record<
     }
 }
 
-// A demand and the price after it, and where they end.
-fn read_pair(s: &[u8], start: Spot) -> Result<(Demand, Price, usize), NumberFault>
-    requires { start.place + length s.now < 2 ^ 64 }
-    ensures reads { result ≡ pair start s.now }
-    ensures within { IfOk result (λ p. p.2 ≤ length s.now) }
-{
-    let (demand, n) = read_quantity(s, 0, start)?;
-    let (price, end) = read_quantity(s, n, start)?;
-    Ok((demand, price, end))
-}
-
 fn reported(demand: Demand, up: Option<Price>, down: Option<Price>) -> Slot
     ensures { result ≡ reported_slot demand up down }
 {
-    Slot::Reported(Reading { demand, up, down })
+    Some(Reading { demand, up, down })
 }
 
-// What the record at the front of `s` tells, and how many bytes it has; `s` begins at `spot`.
-pub(crate) fn read_slot(s: &[u8], spot: Spot) -> Result<(Slot, usize), RecordFault>
-    requires { spot.place + length s.now < 2 ^ 64 }
-    ensures reads { result ≡ slot_told spot s.now }
-    ensures within { IfOk result (λ p. (1 ≤ p.1) × (p.1 ≤ length s.now)) }
-{
-    let [lead, rest @ ..] = s else {
-        return Err(RecordFault::Ends(spot));
-    };
-    let start = Spot {
-        place: spot.place + 1,
-        slot: spot.slot,
-    };
-    match *lead {
-        0 => Ok((Slot::Unreported, 1)),
-        1 => {
-            let (demand, end) = read_quantity(rest, 0, start)?;
-            Ok((reported(demand, None, None), 1 + end))
+impl Part<'_> {
+    // A demand and the price after it, and where they end.
+    fn pair(&self) -> Result<(Demand, Price, usize), NumberFault>
+        ensures reads { result ≡ pair self.now.start self.now.bytes.now }
+        ensures within { IfOk result (λ p. p.2 ≤ length self.now.bytes.now) }
+    {
+        let (demand, n) = self.quantity(0)?;
+        let (price, end) = self.quantity(n)?;
+        Ok((demand, price, end))
+    }
+
+    // What the record at the front tells, and how many bytes it has.
+    pub(crate) fn record(&self) -> Result<(Slot, usize), RecordFault>
+        ensures reads { result ≡ slot_told self.now.start self.now.bytes.now }
+        ensures within { IfOk result (λ p. (1 ≤ p.1) × (p.1 ≤ length self.now.bytes.now)) }
+    {
+        let [lead, rest @ ..] = self.bytes else {
+            return Err(RecordFault::Ends(self.start));
+        };
+        let body = Part {
+            bytes: rest,
+            start: Spot {
+                place: self.start.place + 1,
+                slot: self.start.slot,
+            },
+        };
+        match *lead {
+            0 => Ok((None, 1)),
+            1 => {
+                let (demand, end) = body.quantity(0)?;
+                Ok((reported(demand, None, None), 1 + end))
+            }
+            2 => {
+                let (demand, up, end) = body.pair()?;
+                Ok((reported(demand, Some(up), None), 1 + end))
+            }
+            3 => {
+                let (demand, down, end) = body.pair()?;
+                Ok((reported(demand, None, Some(down)), 1 + end))
+            }
+            4 => {
+                let (demand, up, n) = body.pair()?;
+                let (down, end) = body.quantity(n)?;
+                Ok((reported(demand, Some(up), Some(down)), 1 + end))
+            }
+            _ => Err(RecordFault::Lead(self.start)),
         }
-        2 => {
-            let (demand, up, end) = read_pair(rest, start)?;
-            Ok((reported(demand, Some(up), None), 1 + end))
-        }
-        3 => {
-            let (demand, down, end) = read_pair(rest, start)?;
-            Ok((reported(demand, None, Some(down)), 1 + end))
-        }
-        4 => {
-            let (demand, up, n) = read_pair(rest, start)?;
-            let (down, end) = read_quantity(rest, n, start)?;
-            Ok((reported(demand, Some(up), Some(down)), 1 + end))
-        }
-        _ => Err(RecordFault::Lead(spot)),
     }
 }

@@ -1,20 +1,18 @@
-use Rattle.std.proofs.Common.{sym, ◌∙◌, arith}
+use Rattle.std.proofs.Common.{◌<◌, ◌≤◌, length, sym, ◌∙◌, arith}
+use Rattle.std.proofs.lemmas.Bool.Decides.{nat_tests}
+use Rattle.std.proofs.lemmas.List.{get_or_default}
 use Rattle.sheet.specs.Heads.{opening}
-use Rattle.sheet.proofs.Opening.{opened, right, short, wrong}
+use Rattle.sheet.proofs.Opening.{short, wrong}
 use Rattle.sheet.proofs.head.check_opening.Goals as goal
 
-pub loop-place-preserved : goal.loop-place-preserved
-loop-place-preserved c =
-    (c.loop-place.invariant.0 ∙ right opening c.args.sheet.now c.loop-place.place (omega arith) (omega arith) c.if-sheet-place.false, omega arith)
+pub returns-in_default-clause-checks : goal.returns-in_default-clause-checks
+returns-in_default-clause-checks c =
+    let l = c.in_default.ensures.lookup in
+    let k : length c.args.sheet.now ≤ c.loop-place.place = grind (arith, nat_tests, l.0) in
+    sym (c.loop-place.invariant.0 ∙ short opening c.args.sheet.now c.loop-place.place (omega arith) k)
 
-pub returns-then-place-sheet : goal.returns-then-place-sheet
-returns-then-place-sheet c =
-    record { checks = sym (c.loop-place.invariant.0 ∙ short opening c.args.sheet.now c.loop-place.place (omega arith) (omega arith)); long = tt }
-
-pub returns-then-sheet-place : goal.returns-then-sheet-place
-returns-then-sheet-place c =
-    record { checks = sym (c.loop-place.invariant.0 ∙ wrong opening c.args.sheet.now c.loop-place.place (omega arith) (omega arith) c.if-sheet-place.true); long = tt }
-
-pub returns : goal.returns
-returns c =
-    record { checks = sym (c.loop-place.invariant.0 ∙ opened opening c.args.sheet.now c.loop-place.place (omega arith)); long = omega arith }
+pub returns-then-byte-wanted-clause-checks : goal.returns-then-byte-wanted-clause-checks
+returns-then-byte-wanted-clause-checks c =
+    let l = c.in-Some.ensures.lookup in
+    let k : c.loop-place.place < length c.args.sheet.now = grind (arith, nat_tests, l.0) in
+    sym (c.loop-place.invariant.0 ∙ wrong opening c.args.sheet.now c.loop-place.place (omega arith) k (λ e. c.if-byte-wanted.true (l.1 ∙ (get_or_default c.args.sheet.now c.loop-place.place c.in-Some.byte.now 0 k ∙ e))))

@@ -1,4 +1,4 @@
-use Rattle.std.proofs.Common.{◌≡◌, length, replicate, Ok, sym, ap, ◌∙◌, rules, Some, None}
+use Rattle.std.proofs.Common.{◌≡◌, length, replicate, Ok, sym, ap, ◌∙◌, rules, None}
 use Rattle.std.proofs.lemmas.Result.{err_from_is_err_and}
 use Rattle.sheet.specs.Readers.{standing, seen, shown_of}
 use Rattle.sheet.proofs.Telling.{first, shown_more, shown_fault, shown_end}
