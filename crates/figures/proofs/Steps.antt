@@ -1,5 +1,5 @@
 -- One slot more.
-use Rattle.std.proofs.Common.{◌≡◌, ℕ, zero, suc, ◌+◌, ◌*◌, ◌<◌, ◌≤◌, true, ℤ, pos, negsuc, ◌+ℤ◌, ◌*ℤ◌, nat_abs, Some, None, Option, sym, refl, ap, ◌∙◌, subst, mul-le-mul_right, add-one, arith, below_more}
+use Rattle.std.proofs.Common.{◌≡◌, ℕ, zero, suc, ◌+◌, ◌*◌, ◌≤◌, true, ℤ, pos, negsuc, ◌+ℤ◌, ◌*ℤ◌, nat_abs, Some, None, Option, sym, refl, ap, ◌∙◌, subst, mul-le-mul_right, add-one, arith, below_more}
 use borrow.Author.Differences.{ints}
 use Rattle.source.specs.Meanings.{Meaning}
 use Rattle.source.specs.Products.{weight}
@@ -17,8 +17,9 @@ use Rattle.figures.specs.declared.gathering.ManualSlots.{ManualSlots}
 use Rattle.figures.specs.declared.side.Side.{Side}
 use Rattle.figures.specs.declared.side.Totals.{Totals}
 use Rattle.figures.specs.declared.span.Span.{Span}
+use Rattle.figures.specs.declared.tally.Counted.{Counted}
 use Rattle.figures.specs.declared.tally.Tally.{Tally}
-use Rattle.figures.specs.declared.tally.Weighed.{Weighed}
+use Rattle.figures.specs.declared.weighed.Weighed.{Weighed}
 use Rattle.figures.proofs.Gathered.{cycles_sound, weight_bounds}
 use Rattle.figures.proofs.Products.{product_within}
 use Rattle.figures.proofs.Sound.{CyclesAre}
@@ -52,23 +53,23 @@ module _ (m : Slots) (k : ℕ) (w : Weighed) (is : Is m k w) where
   noted_tallied c t h = record {
     nets = net_more t.net h.nets;
     ups = h.ups;
-    formed_up = formed_more Up t.up_formed h.formed_up;
+    formed_up = formed_more Up t.up.formed h.formed_up;
     downs = h.downs;
-    formed_down = formed_more Down t.down_formed h.formed_down;
+    formed_down = formed_more Down t.down.formed h.formed_down;
   }
 
   pub counted_tallied : (n : ℕ) (t : Tally) → Tallied m n k t → Tallied m n (k + 1) (counting w t)
   counted_tallied n t h = record {
     nets = h.nets;
-    ups = counting_more Up t.up h.ups;
+    ups = counting_more Up t.up.cycles h.ups;
     formed_up = h.formed_up;
-    downs = counting_more Down t.down h.downs;
+    downs = counting_more Down t.down.cycles h.downs;
     formed_down = h.formed_down;
   }
 
   pub manual_is : (d : Direction) → manual d w ≡ manual_at d m k
   manual_is d =
-      ap (λ v. manual d (record { weight = v; reading = w.reading })) is.1
+      ap (λ v. record { volume = volume_of (counted d v w.reading); price = formed d w.reading }) is.1
       ∙ ap (λ s. record { volume = volume_of (counted_of d (weight k) s); price = formed_of d s }) (sym is.0)
 
   pub is_reported : reported (m k) ≡ true
@@ -108,9 +109,6 @@ cycles_room d m n t h e =
     let s = cycles_sound d m n h in
     subst Room (sym e) (omega (arith, s.0), value_within _ _ (counting_to d m n).volume (counting_to d m n).value (counting_to d m n).span s)
 
-pub light : (m : Slots) (k : ℕ) (w : Weighed) → k < 228 → Is m k w → w.weight ≤ 225
-light m k w h is = omega (arith, (weight_bounds k h).1, is.1)
-
 pub net_room : (m : Slots) (n c : ℕ) (t : Tally) → n ≤ 228 → Tallied m n c t → nat_abs t.net ≤ 513_000_000_000
 net_room m n c t h s = subst (λ z. nat_abs z ≤ 513_000_000_000) (sym s.nets) (omega (arith, net_within m n h))
 
@@ -134,8 +132,8 @@ module _ (M : Meaning) (t a b e : Tally) (s : ManualSlots) (cycles : Tallied M.s
       (below_more (λ k. reported (M.slots k) ≡ true) 225 cycles.1 (is_reported M.slots 225 s.scheduled is)) (is_reported M.slots 226 s.direct_up iu))
       (is_reported M.slots 227 s.direct_down iw)
 
-  side_is : (d : Direction) (c : Totals) (f : Option Span) (r : Side) → r ≡ side_from d c f s → c ≡ counting_to d M.slots 225 → f ≡ formed_to d M.slots 228 → r ≡ side_of d M.slots
-  side_is d c f r x y z =
+  side_is : (d : Direction) (c : Counted) (r : Side) → r ≡ side_from d c s → c.cycles ≡ counting_to d M.slots 225 → c.formed ≡ formed_to d M.slots 228 → r ≡ side_of d M.slots
+  side_is d c r x y z =
       let p = manual_is M.slots 225 s.scheduled is d in
       let q = manual_is M.slots 226 s.direct_up iu d in
       let v = manual_is M.slots 227 s.direct_down iw d in
@@ -148,12 +146,12 @@ module _ (M : Meaning) (t a b e : Tally) (s : ManualSlots) (cycles : Tallied M.s
   second_room = net_room M.slots 227 225 b (omega arith) second_tallied
 
   pub quarter_given : (net : ℤ) (zone : ZoneNet) (o : Option Price) (above below : Side) → net ≡ e.net → zone ≡ M.zone → o ≡ M.avoided
-      → above ≡ side_from Up e.up e.up_formed s → below ≡ side_from Down e.down e.down_formed s → Given M net zone o above below
+      → above ≡ side_from Up e.up s → below ≡ side_from Down e.down s → Given M net zone o above below
   quarter_given net zone o above below n z v x y = record {
     all = all_reported;
     nets = n ∙ all_tallied.nets;
     zones = z;
     saves = v;
-    ups = side_is Up e.up e.up_formed above x all_tallied.ups all_tallied.formed_up;
-    downs = side_is Down e.down e.down_formed below y all_tallied.downs all_tallied.formed_down;
+    ups = side_is Up e.up above x all_tallied.ups all_tallied.formed_up;
+    downs = side_is Down e.down below y all_tallied.downs all_tallied.formed_down;
   }

@@ -1,5 +1,5 @@
 -- Whether a source gives figures, and which.
-use Rattle.std.specs.Prelude.{◌≡◌, ℕ, ◌<◌, ◌≤◌, Ok, Err, Option, Result, Some, None}
+use Rattle.std.specs.Prelude.{◌≡◌, ℕ, ◌<◌, ◌≤◌, Ok, Err, Result, Some, None}
 use Rattle.source.specs.Meanings.{Meaning}
 use Rattle.source.specs.Products.{weight}
 use Rattle.source.specs.declared.direction.Direction.{Direction}
@@ -11,10 +11,9 @@ use Rattle.figures.specs.declared.fault.UnreportedSlot.{UnreportedSlot}
 use Rattle.figures.specs.declared.quarter_figures.Figures.{Figures}
 use Rattle.figures.specs.declared.gathering.ManualSlots.{ManualSlots}
 use Rattle.figures.specs.declared.side.Side.{Side}
-use Rattle.figures.specs.declared.side.Totals.{Totals}
-use Rattle.figures.specs.declared.span.Span.{Span}
+use Rattle.figures.specs.declared.tally.Counted.{Counted}
 use Rattle.figures.specs.declared.tally.Tally.{Tally}
-use Rattle.figures.specs.declared.tally.Weighed.{Weighed}
+use Rattle.figures.specs.declared.weighed.Weighed.{Weighed}
 
 -- k is the first slot that is not reported
 pub record FirstUnreported (m : Slots) (k : ℕ) : Type 0 where
@@ -51,11 +50,11 @@ Cycled m (Ok t) = Tallied m 225 225 t × ReportedTo m 225
 Cycled m (Err e) = FirstUnreported m e.slot
 
 -- a direction's figures, of its cycles, its formed prices and the manual slots
-abbrev pub side_from : Direction → Totals → Option Span → ManualSlots → Side
-side_from d c f s = record {
-  cycles = c;
+abbrev pub side_from : Direction → Counted → ManualSlots → Side
+side_from d c s = record {
+  cycles = c.cycles;
   scheduled = manual d s.scheduled;
   direct_up = manual d s.direct_up;
   direct_down = manual d s.direct_down;
-  formed = f;
+  formed = c.formed;
 }

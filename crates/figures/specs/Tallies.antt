@@ -9,7 +9,7 @@ use Rattle.figures.specs.Spans.{noted}
 use Rattle.figures.specs.declared.side.Manual.{Manual}
 use Rattle.figures.specs.declared.side.Totals.{Totals}
 use Rattle.figures.specs.declared.tally.Tally.{Tally}
-use Rattle.figures.specs.declared.tally.Weighed.{Weighed}
+use Rattle.figures.specs.declared.weighed.Weighed.{Weighed}
 
 -- the totals have room for one cycle more
 abbrev pub Room : Totals → Type 0
@@ -19,30 +19,26 @@ abbrev pub manual : Direction → Weighed → Manual
 manual d w = record { volume = volume_of (counted d w.weight w.reading); price = formed d w.reading }
 
 abbrev pub blank : Tally
-blank = record { net = pos 0; up = none; up_formed = None; down = none; down_formed = None }
+blank = record { net = pos 0; up = record { cycles = none; formed = None }; down = record { cycles = none; formed = None } }
 
 abbrev pub noting : Weighed → Tally → Tally
 noting w t = record {
   net = t.net +ℤ (pos w.weight *ℤ w.reading.demand.kw);
-  up = t.up;
-  up_formed = noted w.reading.up t.up_formed;
-  down = t.down;
-  down_formed = noted w.reading.down t.down_formed;
+  up = record { cycles = t.up.cycles; formed = noted w.reading.up t.up.formed };
+  down = record { cycles = t.down.cycles; formed = noted w.reading.down t.down.formed };
 }
 
 abbrev pub counting : Weighed → Tally → Tally
 counting w t = record {
   net = t.net;
-  up = joined (counted Up w.weight w.reading) t.up;
-  up_formed = t.up_formed;
-  down = joined (counted Down w.weight w.reading) t.down;
-  down_formed = t.down_formed;
+  up = record { cycles = joined (counted Up w.weight w.reading) t.up.cycles; formed = t.up.formed };
+  down = record { cycles = joined (counted Down w.weight w.reading) t.down.cycles; formed = t.down.formed };
 }
 
 -- the first n slots are noted, and the first c of them counted
 pub record Tallied (m : Slots) (n c : ℕ) (t : Tally) : Type 0 where
   pub nets : t.net ≡ net_to m n
-  pub ups : t.up ≡ counting_to Up m c
-  pub formed_up : t.up_formed ≡ formed_to Up m n
-  pub downs : t.down ≡ counting_to Down m c
-  pub formed_down : t.down_formed ≡ formed_to Down m n
+  pub ups : t.up.cycles ≡ counting_to Up m c
+  pub formed_up : t.up.formed ≡ formed_to Up m n
+  pub downs : t.down.cycles ≡ counting_to Down m c
+  pub formed_down : t.down.formed ≡ formed_to Down m n

@@ -1,54 +1,15 @@
 // The prices that a rulebook may take from the figures.
-ghost use Rattle.std.specs.Prelude.{◌≡◌, ◌+◌, ◌*◌, ◌≤◌, ◌+ℤ◌, unsigned_abs};
-ghost use Rattle.figures.specs.Components.{automatic_mean, component_of, counting_price, cycles_extreme, extreme, farthest, formed_price, manual_counts, over_manual, reaches, side_in, weighted_mean, worth};
+ghost use Rattle.std.specs.Prelude.{◌≡◌, ◌+◌, ◌*◌, ◌≤◌, ◌+ℤ◌, Option, unsigned_abs};
+ghost use Rattle.figures.specs.Components.{Component, automatic_mean, component_of, counting_price, cycles_extreme, extreme, farthest, formed_price, manual_counts, over_manual, reaches, side_in, weighted_mean, worth};
+ghost use Rattle.figures.specs.declared.side.Manual.{Manual};
 ghost use Rattle.units.specs.Exact.{exact_of};
+ghost use Rattle.units.specs.declared.ratio.Ratio.{Ratio};
 
 use crate::quarter_figures::Figures;
 use crate::side::{Manual, Side};
 use crate::span::Span;
 use source::direction::Direction;
 use units::ratio::Ratio;
-
-// Volume times price of a manual slot.
-fn worth_of(manual: Manual) -> i64
-    requires { manual.volume ≤ 2_250_000_000 }
-    ensures value { result ≡ worth manual }
-    ensures bounded { unsigned_abs result ≤ 9_999_900 * manual.volume }
-{
-    match manual.price {
-        Some(price) => manual.volume as i64 * price.cents(),
-        None => 0,
-    }
-}
-
-fn worth_of_all(scheduled: Manual, direct_up: Manual, direct_down: Manual) -> i64
-    requires scheduled { scheduled.volume ≤ 2_250_000_000 }
-    requires direct_up { direct_up.volume ≤ 2_250_000_000 }
-    requires direct_down { direct_down.volume ≤ 2_250_000_000 }
-    ensures value { result ≡ worth scheduled +ℤ (worth direct_up +ℤ worth direct_down) }
-    ensures bounded { unsigned_abs result ≤ 9_999_900 * (scheduled.volume + (direct_up.volume + direct_down.volume)) }
-{
-    worth_of(scheduled) + worth_of(direct_up) + worth_of(direct_down)
-}
-
-fn formed_price(manual: Manual) -> Option<Ratio>
-    ensures { component_of result ≡ formed_price manual }
-{
-    match manual.price {
-        Some(price) => Some(Ratio::from(price)),
-        None => None,
-    }
-}
-
-fn counting_price(manual: Manual) -> Option<Ratio>
-    ensures { component_of result ≡ counting_price manual }
-{
-    if manual.volume > 0 {
-        formed_price(manual)
-    } else {
-        None
-    }
-}
 
 fn is_reached(direction: Direction, a: Ratio, b: Ratio) -> bool
     ensures { result ≡ reaches direction (exact_of a) (exact_of b) }
@@ -59,29 +20,82 @@ fn is_reached(direction: Direction, a: Ratio, b: Ratio) -> bool
     }
 }
 
-fn farthest_of(direction: Direction, span: Span) -> Ratio
-    ensures { exact_of result ≡ farthest direction span }
-{
-    match direction {
-        Direction::Up => Ratio::from(span.highest),
-        Direction::Down => Ratio::from(span.lowest),
-    }
-}
-
 /// The greater of two exact prices for up, the lesser for down; one that does not exist is passed over.
 pub fn extreme_of(direction: Direction, a: Option<Ratio>, b: Option<Ratio>) -> Option<Ratio>
     ensures { component_of result ≡ extreme direction (component_of a) (component_of b) }
 {
-    let Some(first) = a else {
-        return b;
-    };
-    let Some(second) = b else {
-        return a;
+    let (Some(first), Some(second)) = (a, b) else {
+        return a.or(b);
     };
     if is_reached(direction, first, second) {
         b
     } else {
         a
+    }
+}
+
+impl Span {
+    fn farthest(self, direction: Direction) -> Ratio
+        ensures { exact_of result ≡ farthest direction self }
+    {
+        match direction {
+            Direction::Up => Ratio::from(self.highest),
+            Direction::Down => Ratio::from(self.lowest),
+        }
+    }
+}
+
+impl Manual {
+    // Volume times price.
+    fn worth(self) -> i64
+        requires { self.volume ≤ 2_250_000_000 }
+        ensures value { result ≡ worth self }
+        ensures bounded { unsigned_abs result ≤ 9_999_900 * self.volume }
+    {
+        let cents = self.price.map_or(0, |price| price.cents());
+        self.volume as i64 * cents
+    }
+
+    fn formed_price(self) -> Option<Ratio>
+        ensures { component_of result ≡ formed_price self }
+    {
+        self.price.map(Ratio::from)
+    }
+
+    fn counting_price(self) -> Option<Ratio>
+        ensures { component_of result ≡ counting_price self }
+    {
+        if self.volume > 0 {
+            self.formed_price()
+        } else {
+            None
+        }
+    }
+}
+
+impl Side {
+    // Volume times price of the manual slots.
+    fn manual_worth(self) -> i64
+        requires scheduled { self.scheduled.volume ≤ 2_250_000_000 }
+        requires direct_up { self.direct_up.volume ≤ 2_250_000_000 }
+        requires direct_down { self.direct_down.volume ≤ 2_250_000_000 }
+        ensures value { result ≡ worth self.scheduled +ℤ (worth self.direct_up +ℤ worth self.direct_down) }
+        ensures bounded { unsigned_abs result ≤ 9_999_900 * (self.scheduled.volume + (self.direct_up.volume + self.direct_down.volume)) }
+    {
+        self.scheduled.worth() + self.direct_up.worth() + self.direct_down.worth()
+    }
+
+    // The extreme of the prices that `price` takes of the manual slots.
+    fn over_manual<F: Fn(Manual) -> Option<Ratio>>(
+        self,
+        direction: Direction,
+        price: F,
+    ) -> Option<Ratio>
+        requires { F.IsAlwaysCallable price }
+        ensures { (p : Manual → Component) → ((m : Manual) (r : Option Ratio) → F.post price m r → component_of r ≡ p m) → component_of result ≡ over_manual p direction self }
+    {
+        let direct = extreme_of(direction, price(self.direct_up), price(self.direct_down));
+        extreme_of(direction, price(self.scheduled), direct)
     }
 }
 
@@ -100,7 +114,7 @@ impl Figures {
         ensures { component_of result ≡ weighted_mean (side_in direction self.now) }
     {
         let side = self.side(direction);
-        let manual = worth_of_all(side.scheduled, side.direct_up, side.direct_down);
+        let manual = side.manual_worth();
         let volume = side.cycles.volume
             + side.scheduled.volume
             + side.direct_up.volume
@@ -132,36 +146,24 @@ impl Figures {
     pub fn counting_cycles(&self, direction: Direction) -> Option<Ratio>
         ensures { component_of result ≡ cycles_extreme direction (side_in direction self.now) }
     {
-        match self.side(direction).cycles.span {
-            Some(span) => Some(farthest_of(direction, span)),
-            None => None,
-        }
+        let cycles = self.side(direction).cycles;
+        cycles.span.map(|span| span.farthest(direction))
     }
 
     /// The extreme of the counting manual prices.
     pub fn counting_manual(&self, direction: Direction) -> Option<Ratio>
         ensures { component_of result ≡ over_manual counting_price direction (side_in direction self.now) }
     {
-        let side = self.side(direction);
-        let direct = extreme_of(
-            direction,
-            counting_price(side.direct_up),
-            counting_price(side.direct_down),
-        );
-        extreme_of(direction, counting_price(side.scheduled), direct)
+        self.side(direction)
+            .over_manual(direction, Manual::counting_price)
     }
 
     /// The extreme of the formed manual prices, whatever their demand.
     pub fn formed_manual(&self, direction: Direction) -> Option<Ratio>
         ensures { component_of result ≡ over_manual formed_price direction (side_in direction self.now) }
     {
-        let side = self.side(direction);
-        let direct = extreme_of(
-            direction,
-            formed_price(side.direct_up),
-            formed_price(side.direct_down),
-        );
-        extreme_of(direction, formed_price(side.scheduled), direct)
+        self.side(direction)
+            .over_manual(direction, Manual::formed_price)
     }
 
     /// Whether a manual slot counts.

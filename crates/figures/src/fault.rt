@@ -1,6 +1,7 @@
 // Why a source gives no figures.
-ghost use Rattle.std.specs.Prelude.{◌≡◌};
 ghost use Rattle.figures.specs.Refusals.{unreported_number, unreported_place};
+
+use units::refusal::Refusal;
 
 /// The first slot that is not reported.
 #[derive(Clone, Copy, PartialEq, Eq, Debug)]
@@ -8,16 +9,16 @@ pub struct UnreportedSlot {
     pub slot: usize,
 }
 
-impl UnreportedSlot {
-    pub fn number(self) -> u16
-        ensures { result ≡ unreported_number self }
-    {
+impl Refusal for UnreportedSlot {
+    ghost number = { unreported_number };
+
+    ghost place = { unreported_place };
+
+    fn number(self) -> u16 {
         7
     }
 
-    pub fn place(self) -> usize
-        ensures { result ≡ unreported_place self }
-    {
+    fn place(self) -> usize {
         self.slot
     }
 }

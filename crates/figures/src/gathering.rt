@@ -4,13 +4,13 @@ ghost use Rattle.figures.specs.Gathering.{CountsShown, Cycled, Figured, Weighs, 
 
 use crate::fault::UnreportedSlot;
 use crate::quarter_figures::Figures;
-use crate::side::{Side, Totals};
-use crate::span::Span;
-use crate::tally::{Tally, Weighed};
+use crate::side::Side;
+use crate::tally::{Counted, Tally};
+use crate::weighed::Weighed;
 use source::direction::Direction;
 use source::price_source::PriceSource;
 use source::product::weight_of;
-use source::slot::{Reading, Slot};
+use source::slot::Reading;
 
 const CYCLES: usize = 225;
 
@@ -24,28 +24,13 @@ fn weighed<S: PriceSource>(source: &S, slot: usize) -> Result<Weighed, Unreporte
     requires { slot < 228 }
     ensures { Weighs (S.PriceSource.means source.now).slots slot result }
 {
-    let Ok(told) = source.slot(slot) else {
+    let Ok(Some(reading)) = source.slot(slot) else {
         return Err(UnreportedSlot { slot });
     };
-    match told {
-        Slot::Reported(reading) => {
-            // The prices by their cases: a copy of a whole price is compiled to a load across two stores, and waits for both.
-            let up = match reading.up {
-                Some(price) => Some(price),
-                None => None,
-            };
-            let down = match reading.down {
-                Some(price) => Some(price),
-                None => None,
-            };
-            let demand = reading.demand;
-            Ok(Weighed {
-                weight: weight_of(slot),
-                reading: Reading { demand, up, down },
-            })
-        }
-        Slot::Unreported => Err(UnreportedSlot { slot }),
-    }
+    Ok(Weighed {
+        weight: weight_of(slot),
+        reading,
+    })
 }
 
 fn cycles<S: PriceSource>(source: &S) -> Result<Tally, UnreportedSlot>
@@ -68,18 +53,15 @@ struct ManualSlots {
 }
 
 impl ManualSlots {
-    fn side(self, direction: Direction, cycles: Totals, formed: Option<Span>) -> Side
-        requires scheduled { self.scheduled.weight ≤ 225 }
-        requires direct_up { self.direct_up.weight ≤ 225 }
-        requires direct_down { self.direct_down.weight ≤ 225 }
-        ensures { result ≡ side_from direction cycles formed self }
+    fn side(self, direction: Direction, counted: Counted) -> Side
+        ensures { result ≡ side_from direction counted self }
     {
         Side {
-            cycles,
+            cycles: counted.cycles,
             scheduled: self.scheduled.manual(direction),
             direct_up: self.direct_up.manual(direction),
             direct_down: self.direct_down.manual(direction),
-            formed,
+            formed: counted.formed,
         }
     }
 }
@@ -106,7 +88,7 @@ pub fn figures_of<S: PriceSource>(source: &S) -> Result<Figures, UnreportedSlot>
         local_net: all.net,
         zone_net: source.zone_net(),
         avoided: source.avoided(),
-        up: manual.side(Direction::Up, all.up, all.up_formed),
-        down: manual.side(Direction::Down, all.down, all.down_formed),
+        up: manual.side(Direction::Up, all.up),
+        down: manual.side(Direction::Down, all.down),
     })
 }

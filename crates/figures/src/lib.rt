@@ -8,3 +8,4 @@ pub mod quarter_figures;
 pub mod side;
 pub mod span;
 mod tally;
+mod weighed;

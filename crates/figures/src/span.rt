@@ -1,6 +1,6 @@
 // The lowest and the highest of some prices.
 ghost use Rattle.std.specs.Prelude.{◌≡◌};
-ghost use Rattle.figures.specs.Spans.{lesser, greater, widened, noted};
+ghost use Rattle.figures.specs.Spans.{widened, noted};
 
 use units::price::Price;
 
@@ -8,18 +8,6 @@ use units::price::Price;
 pub struct Span {
     pub lowest: Price,
     pub highest: Price,
-}
-
-fn lesser_of(p: Price, q: Price) -> Price
-    ensures { result ≡ lesser p q }
-{
-    if p.cents() < q.cents() { p } else { q }
-}
-
-fn greater_of(p: Price, q: Price) -> Price
-    ensures { result ≡ greater p q }
-{
-    if q.cents() < p.cents() { p } else { q }
 }
 
 impl Span {
@@ -33,8 +21,8 @@ impl Span {
                 highest: price,
             },
             Some(wide) => Span {
-                lowest: lesser_of(price, wide.lowest),
-                highest: greater_of(price, wide.highest),
+                lowest: wide.lowest.min(price),
+                highest: price.max(wide.highest),
             },
         }
     }
@@ -43,9 +31,6 @@ impl Span {
     pub(crate) fn noting(span: Option<Span>, price: Option<Price>) -> Option<Span>
         ensures { result ≡ noted price span }
     {
-        match price {
-            None => span,
-            Some(price) => Some(Span::with(span, price)),
-        }
+        price.map_or(span, |price| Some(Span::with(span, price)))
     }
 }

@@ -1,47 +1,43 @@
 // The sums over the slots that were read so far.
 ghost use Rattle.std.specs.Prelude.{◌≡◌, ◌*◌, ◌≤◌, pos, ◌*ℤ◌, unsigned_abs};
 ghost use Rattle.figures.specs.Counting.{counted, demand_in};
-ghost use Rattle.figures.specs.Sides.{joined, none, volume_of};
+ghost use Rattle.figures.specs.Sides.{joined, volume_of};
 ghost use Rattle.figures.specs.Tallies.{Room, blank, counting, manual, noting};
 
 use crate::side::{Activation, Manual, Totals};
 use crate::span::Span;
+use crate::weighed::Weighed;
 use source::direction::Direction;
-use source::slot::Reading;
-use units::price::Price;
 
-// A slot's reading, with the weight of its number.
+// Of one direction the totals of the cycles counted, and the formed prices of the slots noted.
 #[derive(Clone, Copy)]
-pub(crate) struct Weighed {
-    pub(crate) weight: u64,
-    pub(crate) reading: Reading,
+pub(crate) struct Counted {
+    pub(crate) cycles: Totals,
+    pub(crate) formed: Option<Span>,
 }
 
-// The local net and the formed prices of the slots noted, and the totals of the cycles counted.
+// The local net of the slots noted, and what was counted and noted in each direction.
 #[derive(Clone, Copy)]
 pub(crate) struct Tally {
     pub(crate) net: i64,
-    pub(crate) up: Totals,
-    pub(crate) up_formed: Option<Span>,
-    pub(crate) down: Totals,
-    pub(crate) down_formed: Option<Span>,
-}
-
-// The size of the demand in a direction, 0 where it is not in that direction.
-fn demand_in(reading: Reading, direction: Direction) -> u64
-    ensures { result ≡ demand_in direction reading }
-{
-    let kw = reading.demand.kw();
-    match direction {
-        Direction::Up if kw > 0 => kw.unsigned_abs(),
-        Direction::Down if kw < 0 => kw.unsigned_abs(),
-        _ => 0,
-    }
+    pub(crate) up: Counted,
+    pub(crate) down: Counted,
 }
 
 impl Weighed {
+    // The size of the demand in a direction, 0 where it is not in that direction.
+    fn demand_in(self, direction: Direction) -> u64
+        ensures { result ≡ demand_in direction self.reading }
+    {
+        let kw = self.reading.demand.kw();
+        match direction {
+            Direction::Up if kw > 0 => kw.unsigned_abs(),
+            Direction::Down if kw < 0 => kw.unsigned_abs(),
+            _ => 0,
+        }
+    }
+
     fn energy(self) -> i64
-        requires { self.weight ≤ 225 }
         ensures value { result ≡ pos self.weight *ℤ self.reading.demand.kw }
         ensures small { unsigned_abs result ≤ 2_250_000_000 }
     {
@@ -49,11 +45,10 @@ impl Weighed {
     }
 
     fn counted(self, direction: Direction) -> Option<Activation>
-        requires { self.weight ≤ 225 }
         ensures value { result ≡ counted direction self.weight self.reading }
         ensures small { volume_of result ≤ 2_250_000_000 }
     {
-        let size = demand_in(self.reading, direction);
+        let size = self.demand_in(direction);
         match self.reading.formed(direction) {
             Some(price) if size > 0 => Some(Activation {
                 volume: self.weight * size,
@@ -64,15 +59,10 @@ impl Weighed {
     }
 
     pub(crate) fn manual(self, direction: Direction) -> Manual
-        requires { self.weight ≤ 225 }
         ensures { result ≡ manual direction self }
     {
-        let volume = match self.counted(direction) {
-            Some(activation) => activation.volume,
-            None => 0,
-        };
         Manual {
-            volume,
+            volume: self.counted(direction).map_or(0, |counted| counted.volume),
             price: self.reading.formed(direction),
         }
     }
@@ -80,8 +70,7 @@ impl Weighed {
 
 impl Totals {
     fn with(self, activation: Option<Activation>) -> Totals
-        requires few { self.volume ≤ 2_250_000_000 }
-        requires bounded { unsigned_abs self.value ≤ 9_999_900 * self.volume }
+        requires room { Room self }
         requires small { volume_of activation ≤ 2_250_000_000 }
         ensures { result ≡ joined activation self }
     {
@@ -100,48 +89,55 @@ impl Tally {
     pub(crate) fn blank() -> Tally
         ensures { result ≡ blank }
     {
-        let none = Totals {
-            volume: 0,
-            value: 0,
-            span: None,
+        let blank = Counted {
+            cycles: Totals {
+                volume: 0,
+                value: 0,
+                span: None,
+            },
+            formed: None,
         };
         Tally {
             net: 0,
-            up: none,
-            up_formed: None,
-            down: none,
-            down_formed: None,
+            up: blank,
+            down: blank,
         }
     }
 
     // The demand and the formed prices of one slot more.
     pub(crate) fn noting(self, slot: Weighed) -> Tally
-        requires light { slot.weight ≤ 225 }
-        requires room { unsigned_abs self.net ≤ 513_000_000_000 }
+        requires { unsigned_abs self.net ≤ 513_000_000_000 }
         ensures { result ≡ noting slot self }
     {
         Tally {
             net: self.net + slot.energy(),
-            up: self.up,
-            up_formed: Span::noting(self.up_formed, slot.reading.up),
-            down: self.down,
-            down_formed: Span::noting(self.down_formed, slot.reading.down),
+            up: Counted {
+                cycles: self.up.cycles,
+                formed: Span::noting(self.up.formed, slot.reading.up),
+            },
+            down: Counted {
+                cycles: self.down.cycles,
+                formed: Span::noting(self.down.formed, slot.reading.down),
+            },
         }
     }
 
     // The counting demand of one cycle more.
     pub(crate) fn counting(self, cycle: Weighed) -> Tally
-        requires light { cycle.weight ≤ 225 }
-        requires up { Room self.up }
-        requires down { Room self.down }
+        requires up { Room self.up.cycles }
+        requires down { Room self.down.cycles }
         ensures { result ≡ counting cycle self }
     {
         Tally {
             net: self.net,
-            up: self.up.with(cycle.counted(Direction::Up)),
-            up_formed: self.up_formed,
-            down: self.down.with(cycle.counted(Direction::Down)),
-            down_formed: self.down_formed,
+            up: Counted {
+                cycles: self.up.cycles.with(cycle.counted(Direction::Up)),
+                formed: self.up.formed,
+            },
+            down: Counted {
+                cycles: self.down.cycles.with(cycle.counted(Direction::Down)),
+                formed: self.down.formed,
+            },
         }
     }
 }

@@ -111,7 +111,10 @@ impl Refusal for RecordFault {
     }
 
     fn place(self) -> usize {
-        self.spot().place
+        match self {
+            RecordFault::Number(fault) => fault.place(),
+            RecordFault::Ends(spot) | RecordFault::Lead(spot) => spot.place,
+        }
     }
 }
 

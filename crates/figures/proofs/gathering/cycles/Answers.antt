@@ -1,7 +1,7 @@
 use Rattle.std.proofs.Common.{◌+◌, sym, ap, ◌∙◌, subst, arith, below_none, below_more}
 use Rattle.source.specs.declared.direction.Direction.TheVariants.{Up, Down}
 use Rattle.figures.specs.Tallies.{Tallied}
-use Rattle.figures.proofs.Steps.{blank_tallied, cycles_room, counted_tallied, is_reported, light, net_room, noted_tallied}
+use Rattle.figures.proofs.Steps.{blank_tallied, cycles_room, counted_tallied, is_reported, net_room, noted_tallied}
 use Rattle.figures.proofs.gathering.cycles.Goals as goal
 
 pub loop-slot-init : goal.loop-slot-init
@@ -13,19 +13,15 @@ pub noting-requires : goal.noting-requires
 noting-requires g c =
     let m = (g.S.PriceSource.means c.args.source.now).slots in
     let k = c.loop-slot.slot in
-    record {
-      light = light m k c.in_ok-cycle.cycle (omega arith) c.in_ok-cycle.ensures;
-      room = net_room m k k c.loop-slot.tally (omega arith) c.loop-slot.invariant.0;
-    }
+    net_room m k k c.loop-slot.tally (omega arith) c.loop-slot.invariant.0
 
 pub counting-tally-requires : goal.counting-tally-requires
 counting-tally-requires g c =
     let m = (g.S.PriceSource.means c.args.source.now).slots in
     let k = c.loop-slot.slot in
     record {
-      light = light m k c.in_ok-cycle.cycle (omega arith) c.in_ok-cycle.ensures;
-      up = cycles_room Up m k c.noting.result.up (omega arith) (ap (λ t. t.up) c.noting.ensures ∙ c.loop-slot.invariant.0.ups);
-      down = cycles_room Down m k c.noting.result.down (omega arith) (ap (λ t. t.down) c.noting.ensures ∙ c.loop-slot.invariant.0.downs);
+      up = cycles_room Up m k c.noting.result.up.cycles (omega arith) (ap (λ t. t.up.cycles) c.noting.ensures ∙ c.loop-slot.invariant.0.ups);
+      down = cycles_room Down m k c.noting.result.down.cycles (omega arith) (ap (λ t. t.down.cycles) c.noting.ensures ∙ c.loop-slot.invariant.0.downs);
     }
 
 pub loop-slot-preserved : goal.loop-slot-preserved

@@ -1,37 +1,28 @@
 use Rattle.std.proofs.Common.{refl, arith, rules}
 use Rattle.figures.proofs.Counted.{counts_shown}
-use Rattle.figures.proofs.Steps.{first_room, light, net_room, quarter_given, second_room}
+use Rattle.figures.proofs.Steps.{first_room, net_room, quarter_given, second_room}
 use Rattle.figures.proofs.gathering.figures_of.Goals as goal
 
 pub noting-requires : goal.noting-requires
 noting-requires g c =
     let m = (g.S.PriceSource.means c.args.source.now).slots in
-    record {
-      light = light m 225 c.in_ok-scheduled.scheduled (omega arith) c.in_ok-scheduled.ensures;
-      room = net_room m 225 225 c.in_ok-tally.tally (omega arith) c.in_ok-tally.ensures.0;
-    }
+    net_room m 225 225 c.in_ok-tally.tally (omega arith) c.in_ok-tally.ensures.0
 
 pub noting-requires-2 : goal.noting-requires-2
 noting-requires-2 g c =
     let m = g.S.PriceSource.means c.args.source.now in
-    record {
-      light = light m.slots 226 c.in_ok-direct_up.direct_up (omega arith) c.in_ok-direct_up.ensures;
-      room = first_room m c.in_ok-tally.tally c.noting.result _ _
-          (record { scheduled = c.in_ok-scheduled.scheduled; direct_up = c.in_ok-direct_up.direct_up; direct_down = c.in_ok-direct_down.direct_down })
-          c.in_ok-tally.ensures c.in_ok-scheduled.ensures c.in_ok-direct_up.ensures c.in_ok-direct_down.ensures
-          c.noting.ensures refl refl;
-    }
+    first_room m c.in_ok-tally.tally c.noting.result _ _
+    (record { scheduled = c.in_ok-scheduled.scheduled; direct_up = c.in_ok-direct_up.direct_up; direct_down = c.in_ok-direct_down.direct_down })
+    c.in_ok-tally.ensures c.in_ok-scheduled.ensures c.in_ok-direct_up.ensures c.in_ok-direct_down.ensures
+    c.noting.ensures refl refl
 
 pub noting-all-requires : goal.noting-all-requires
 noting-all-requires g c =
     let m = g.S.PriceSource.means c.args.source.now in
-    record {
-      light = light m.slots 227 c.in_ok-direct_down.direct_down (omega arith) c.in_ok-direct_down.ensures;
-      room = second_room m c.in_ok-tally.tally c.noting.result c.noting-2.result _
-          (record { scheduled = c.in_ok-scheduled.scheduled; direct_up = c.in_ok-direct_up.direct_up; direct_down = c.in_ok-direct_down.direct_down })
-          c.in_ok-tally.ensures c.in_ok-scheduled.ensures c.in_ok-direct_up.ensures c.in_ok-direct_down.ensures
-          c.noting.ensures c.noting-2.ensures refl;
-    }
+    second_room m c.in_ok-tally.tally c.noting.result c.noting-2.result _
+    (record { scheduled = c.in_ok-scheduled.scheduled; direct_up = c.in_ok-direct_up.direct_up; direct_down = c.in_ok-direct_down.direct_down })
+    c.in_ok-tally.ensures c.in_ok-scheduled.ensures c.in_ok-direct_up.ensures c.in_ok-direct_down.ensures
+    c.noting.ensures c.noting-2.ensures refl
 
 pub invariant_of-result : goal.invariant_of-result
 invariant_of-result g c =

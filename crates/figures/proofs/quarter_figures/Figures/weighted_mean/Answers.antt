@@ -13,8 +13,8 @@ overflow_add-volume-2 c = let s = sizes_in c.args.self.now c.args.direction c.si
 pub overflow_add-volume-3 : goal.overflow_add-volume-3
 overflow_add-volume-3 c = let s = sizes_in c.args.self.now c.args.direction c.side-side.result c.side-side.ensures in omega arith
 
-pub worth_of_all-manual-requires : goal.worth_of_all-manual-requires
-worth_of_all-manual-requires c =
+pub manual_worth-manual-requires : goal.manual_worth-manual-requires
+manual_worth-manual-requires c =
     let s = sizes_in c.args.self.now c.args.direction c.side-side.result c.side-side.ensures in
     record { scheduled = s.scheduled; direct_up = s.above; direct_down = s.below }
 

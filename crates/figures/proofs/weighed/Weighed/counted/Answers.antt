@@ -2,7 +2,7 @@ use Rattle.std.proofs.Common.{◌≡◌, ℕ, zero, suc, ◌*◌, ◌<◌, ◌�
 use Rattle.units.specs.declared.price.Price.{Price}
 use Rattle.figures.specs.Counting.{activation}
 use Rattle.figures.proofs.Gathered.{demand_within}
-use Rattle.figures.proofs.tally.Weighed.counted.Goals as goal
+use Rattle.figures.proofs.weighed.Weighed.counted.Goals as goal
 
 -- a demand above 0 whose price is formed counts
 counts : (w n k : ℕ) (p : Price) (o : Option Price) → 0 < n → n ≡ k → Some p ≡ o → Some (record { volume = w * n; price = p }) ≡ activation w k o
@@ -15,5 +15,5 @@ returns-in-Some c =
     let n : c.demand_in-size.result ≤ 10_000_000 = omega (arith, c.demand_in-size.ensures) in
     record {
       value = counts c.args.self.weight c.demand_in-size.result _ c.in-Some.price _ (omega arith) c.demand_in-size.ensures c.in-Some.ensures;
-      small = omega (arith, mul-le-mul c.requires n);
+      small = omega (arith, mul-le-mul c.args.self.light n);
     }

@@ -2,7 +2,7 @@ use borrow.Author.Differences.{ints}
 use Rattle.std.proofs.Common.{arith}
 use Rattle.std.proofs.lemmas.Int.{to_z-of_z, to_z_pos}
 use Rattle.figures.proofs.Products.{product_within}
-use Rattle.figures.proofs.tally.Weighed.energy.Goals as goal
+use Rattle.figures.proofs.weighed.Weighed.energy.Goals as goal
 
 pub overflow_mul-result : goal.overflow_mul-result
 overflow_mul-result c =

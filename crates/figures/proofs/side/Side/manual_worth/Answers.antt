@@ -1,7 +1,7 @@
 use borrow.Author.Differences.{ints}
 use Rattle.std.proofs.Common.{◌≡◌, ℕ, ◌+◌, ◌*◌, ◌≤◌, ℤ, ◌+ℤ◌, nat_abs, arith, w64, SFits, rules}
 use Rattle.std.proofs.lemmas.Int.{to_z-of_z}
-use Rattle.figures.proofs.components.worth_of_all.Goals as goal
+use Rattle.figures.proofs.side.Side.manual_worth.Goals as goal
 
 joined : (x y z a b c : ℤ) → x ≡ a → y ≡ b → z ≡ c → (x +ℤ y) +ℤ z ≡ a +ℤ (b +ℤ c)
 joined x y z a b c e f g = omega (arith, ints)
@@ -15,18 +15,18 @@ fits x y z u v w a b c e f g = (omega (arith, ints), omega (arith, ints))
 
 pub returns : goal.returns
 returns c =
-    let x = c.worth_of.result in
-    let y = c.worth_of-2.result in
-    let z = c.worth_of-3.result in
-    let p = c.worth_of.ensures in
-    let q = c.worth_of-2.ensures in
-    let r = c.worth_of-3.ensures in
+    let x = c.worth.result in
+    let y = c.worth-2.result in
+    let z = c.worth-3.result in
+    let p = c.worth.ensures in
+    let q = c.worth-2.ensures in
+    let r = c.worth-3.ensures in
     let f : SFits w64 x = search rules in
     let g : SFits w64 y = search rules in
     let h : SFits w64 z = search rules in
-    let k = fits x y z c.args.scheduled.volume c.args.direct_up.volume c.args.direct_down.volume c.requires.scheduled c.requires.direct_up c.requires.direct_down p.bounded q.bounded r.bounded in
+    let k = fits x y z c.args.self.scheduled.volume c.args.self.direct_up.volume c.args.self.direct_down.volume c.requires.scheduled c.requires.direct_up c.requires.direct_down p.bounded q.bounded r.bounded in
     simp (to_z-of_z w64 x f, to_z-of_z w64 y g, to_z-of_z w64 z h, to_z-of_z w64 (x +ℤ y) k.0, to_z-of_z w64 ((x +ℤ y) +ℤ z) k.1)
     (record {
       value = joined x y z _ _ _ p.value q.value r.value;
-      bounded = small x y z c.args.scheduled.volume c.args.direct_up.volume c.args.direct_down.volume p.bounded q.bounded r.bounded;
+      bounded = small x y z c.args.self.scheduled.volume c.args.self.direct_up.volume c.args.self.direct_down.volume p.bounded q.bounded r.bounded;
     })
