@@ -10,7 +10,6 @@ use Rattle.source.specs.Meanings.{Meaning}
 use Rattle.lines.specs.Texts.{line_text, outcome_text, refusal_text}
 use Rattle.lines.specs.declared.quarter_lines.FiveLines.{FiveLines}
 use Rattle.lines.specs.declared.quarter_lines.QuarterLines.{QuarterLines}
-use Rattle.lines.specs.declared.quarter_lines.QuarterLines.TheVariants.{Refused, Quoted}
 
 abbrev pub five : List ℕ → List ℕ → List ℕ → List ℕ → List ℕ → List ℕ
 five a b c d e = a ++ (b ++ (c ++ (d ++ e)))
@@ -22,9 +21,13 @@ five_text l = five (line_text l.weighted_average) (line_text l.combined_automati
 abbrev pub fault_text : SheetFault → List ℕ
 fault_text f = 0x21 ∷ 0x20 ∷ (decimal (fault_number f) ++ (0x20 ∷ (decimal (fault_place f) ++ (0x0A ∷ []))))
 
+-- the lines of the codes, or that of the sheet's fault
+abbrev pub printed : Result FiveLines SheetFault → List ℕ
+printed (Ok l) = five_text l
+printed (Err f) = fault_text f
+
 abbrev pub lines_text : QuarterLines → List ℕ
-lines_text (Refused f) = fault_text f
-lines_text (Quoted l) = five_text l
+lines_text l = printed l.answer
 
 -- the lines of codes 1 to 5, for the figures of a quarter
 abbrev pub five_outcomes : Figures → List ℕ

@@ -1,22 +1,16 @@
 -- The text of one printed line: fields one space apart, ended by byte 0A.
 use Rattle.std.specs.Prelude.{ℕ, List, [], ◌∷◌, ◌++◌, ℤ, Some, None, Ok, Err, decimal, Option, Result}
 use Rattle.pricing.specs.Outcomes.{Outcome, avoided, priced}
-use Rattle.pricing.specs.Quotes.{standing}
+use Rattle.pricing.specs.Quotes.{letter, standing}
 use Rattle.pricing.specs.Refusals.{quote_number}
 use Rattle.pricing.specs.declared.fault.QuoteFault.{QuoteFault}
 use Rattle.pricing.specs.declared.quote.Quote.{Quote}
 use Rattle.pricing.specs.declared.quote.QuoteDirection.{QuoteDirection}
-use Rattle.pricing.specs.declared.quote.QuoteDirection.TheVariants.{Up, Down, Avoided}
+use Rattle.pricing.specs.declared.quote.QuoteDirection.TheVariants.{Avoided}
 use Rattle.units.specs.Rounding.{rounded}
 use Rattle.units.specs.Text.{euros}
 use Rattle.units.specs.declared.price.Price.{Price}
 use Rattle.lines.specs.declared.line.Line.{Line}
-
--- U, D or A
-abbrev pub letter : QuoteDirection → ℕ
-letter Up = 0x55
-letter Down = 0x44
-letter Avoided = 0x41
 
 -- code, letter, euros
 abbrev pub quote_text : ℕ → QuoteDirection → ℤ → List ℕ

@@ -4,10 +4,11 @@ ghost use Rattle.lines.specs.Texts.{line_text, outcome_text};
 
 use figures::quarter_figures::Figures;
 use pricing::fault::QuoteFault;
-use pricing::quote::{Quote, QuoteDirection, quote_figures};
+use pricing::quote::{Quote, quote_figures};
 use pricing::rulebook::Rulebook;
 use std::fmt;
 use units::euros::Amount;
+use units::refusal::Refusal;
 
 #[derive(Clone, Copy)]
 pub struct Line {
@@ -22,14 +23,11 @@ impl fmt::Display for Line {
         let code = self.code;
         match self.answer {
             Ok(quote) => {
+                let direction = quote.direction;
                 let euros = Amount {
                     cents: quote.price.cents(),
                 };
-                match quote.direction {
-                    QuoteDirection::Up => write!(f, "{code} U {euros}\n"),
-                    QuoteDirection::Down => write!(f, "{code} D {euros}\n"),
-                    QuoteDirection::Avoided => write!(f, "{code} A {euros}\n"),
-                }
+                write!(f, "{code} {direction} {euros}\n")
             }
             Err(fault) => {
                 let number = fault.number();
@@ -41,10 +39,10 @@ impl fmt::Display for Line {
 
 /// The line of figures under a rulebook.
 pub fn line_of<R: Rulebook>(figures: &Figures, rulebook: &R) -> Line
-    ensures { line_text result ≡ outcome_text R.Rulebook.code (R.Rulebook.ruling figures.now) figures.now.avoided }
+    ensures { line_text result ≡ outcome_text R.Rulebook.CODE (R.Rulebook.ruling figures.now) figures.now.avoided }
 {
     Line {
-        code: R::number(),
+        code: R::CODE,
         answer: quote_figures(figures, rulebook),
     }
 }

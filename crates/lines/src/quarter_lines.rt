@@ -1,6 +1,6 @@
 // All lines of one quarter: five quotes, or the refusal of its sheet.
 ghost use Rattle.std.specs.Prelude.{◌≡◌, Some};
-ghost use Rattle.lines.specs.Quarters.{Printed, five_outcomes, five_refusals, five_text, lines_text};
+ghost use Rattle.lines.specs.Quarters.{Printed, five_outcomes, five_refusals, five_text, lines_text, printed};
 
 use crate::line::{Line, line_of};
 use figures::fault::UnreportedSlot;
@@ -12,6 +12,7 @@ use pricing::rulebooks::{CombinedAll, CombinedAutomatic, Finnish, MaxMin, Weight
 use sheet::fault::SheetFault;
 use sheet::sheet::Sheet;
 use std::fmt;
+use units::refusal::Refusal;
 
 /// The lines of codes 1 to 5.
 #[derive(Clone, Copy)]
@@ -27,33 +28,37 @@ impl fmt::Display for FiveLines {
     ghost output = { λ x. Some (five_text x) };
 
     fn fmt<W: fmt::Write>(&self, f: &mut fmt::Formatter<W>) -> fmt::Result {
-        let one = self.weighted_average;
-        let two = self.combined_automatic;
-        let three = self.combined_all;
-        let four = self.max_min;
-        let five = self.finnish;
-        write!(f, "{one}{two}{three}{four}{five}")
+        let FiveLines {
+            weighted_average,
+            combined_automatic,
+            combined_all,
+            max_min,
+            finnish,
+        } = self;
+        write!(
+            f,
+            "{weighted_average}{combined_automatic}{combined_all}{max_min}{finnish}"
+        )
     }
 }
 
 /// What is printed of a sheet.
 #[derive(Clone, Copy)]
-pub enum QuarterLines {
-    Refused(SheetFault),
-    Quoted(FiveLines),
+pub struct QuarterLines {
+    pub answer: Result<FiveLines, SheetFault>,
 }
 
 impl fmt::Display for QuarterLines {
     ghost output = { λ x. Some (lines_text x) };
 
     fn fmt<W: fmt::Write>(&self, f: &mut fmt::Formatter<W>) -> fmt::Result {
-        match *self {
-            QuarterLines::Refused(fault) => {
+        match self.answer {
+            Ok(lines) => write!(f, "{lines}"),
+            Err(fault) => {
                 let number = fault.number();
                 let place = fault.place();
                 write!(f, "! {number} {place}\n")
             }
-            QuarterLines::Quoted(lines) => write!(f, "{lines}"),
         }
     }
 }
@@ -73,41 +78,36 @@ fn quoted(figures: &Figures) -> FiveLines
 fn unreported(slot: UnreportedSlot) -> FiveLines
     ensures { five_text result ≡ five_refusals 7 }
 {
-    let answer = Err(QuoteFault::Unreported(slot));
+    let line = |code| Line {
+        code,
+        answer: Err(QuoteFault::from(slot)),
+    };
     FiveLines {
-        weighted_average: Line {
-            code: WeightedAverage::CODE,
-            answer,
-        },
-        combined_automatic: Line {
-            code: CombinedAutomatic::CODE,
-            answer,
-        },
-        combined_all: Line {
-            code: CombinedAll::CODE,
-            answer,
-        },
-        max_min: Line {
-            code: MaxMin::CODE,
-            answer,
-        },
-        finnish: Line {
-            code: Finnish::CODE,
-            answer,
-        },
+        weighted_average: line(WeightedAverage::CODE),
+        combined_automatic: line(CombinedAutomatic::CODE),
+        combined_all: line(CombinedAll::CODE),
+        max_min: line(MaxMin::CODE),
+        finnish: line(Finnish::CODE),
     }
 }
 
-/// The lines of a sheet of any bytes. It is decoded once, and its figures are worked out once.
+// It is decoded once, and its figures are worked out once.
+fn five_lines_of(bytes: &[u8]) -> Result<FiveLines, SheetFault>
+    ensures { Printed bytes.now (printed result) }
+{
+    let sheet = Sheet::read(bytes);
+    sheet.check()?;
+    match figures_of(&sheet) {
+        Ok(figures) => Ok(quoted(&figures)),
+        Err(slot) => Ok(unreported(slot)),
+    }
+}
+
+/// The lines of a sheet of any bytes.
 pub fn lines_of(bytes: &[u8]) -> QuarterLines
     ensures { Printed bytes.now (lines_text result) }
 {
-    let sheet = Sheet::read(bytes);
-    if let Err(fault) = sheet.check() {
-        return QuarterLines::Refused(fault);
-    }
-    match figures_of(&sheet) {
-        Ok(figures) => QuarterLines::Quoted(quoted(&figures)),
-        Err(slot) => QuarterLines::Quoted(unreported(slot)),
+    QuarterLines {
+        answer: five_lines_of(bytes),
     }
 }

@@ -7,16 +7,15 @@ use Rattle.source.specs.declared.direction.Direction.TheVariants.{Up, Down}
 use Rattle.units.specs.Exact.{Exact, exact_of}
 use Rattle.pricing.specs.declared.ruling.Net.{Net}
 use Rattle.pricing.specs.declared.ruling.Net.TheVariants.{Local, Zone}
-use Rattle.pricing.specs.declared.ruling.Ruling.{Ruling}
-use Rattle.pricing.specs.declared.ruling.Ruling.TheVariants.{Avoided, Priced}
+use Rattle.pricing.specs.declared.ruling.Priced.{Priced}
 
 pub data Outcome : Type 0 where
   avoided : Outcome
   priced : Direction → Exact → Outcome
 
-abbrev pub outcome_of : Ruling → Outcome
-outcome_of Avoided = avoided
-outcome_of (Priced d q) = priced d (exact_of q)
+abbrev pub outcome_of : Option Priced → Outcome
+outcome_of None = avoided
+outcome_of (Some p) = priced p.direction (exact_of p.price)
 
 -- the net that decides
 abbrev pub net_of : Net → Figures → ℤ

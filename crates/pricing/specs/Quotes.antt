@@ -18,6 +18,12 @@ abbrev pub standing : Direction → QuoteDirection
 standing dir.Up = Up
 standing dir.Down = Down
 
+-- U, D or A
+abbrev pub letter : QuoteDirection → ℕ
+letter Up = 0x55
+letter Down = 0x44
+letter Avoided = 0x41
+
 abbrev pub Answer : Type 0
 Answer = Result Quote QuoteFault
 

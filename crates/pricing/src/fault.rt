@@ -4,6 +4,7 @@ ghost use Rattle.pricing.specs.Refusals.{quote_number, quote_place};
 ghost use Rattle.pricing.specs.declared.fault.QuoteFault.TheVariants.{Unreported};
 
 use figures::fault::UnreportedSlot;
+use units::refusal::Refusal;
 
 #[derive(Clone, Copy, Debug)]
 pub enum QuoteFault {
@@ -13,19 +14,19 @@ pub enum QuoteFault {
     NoAvoidedValue,
 }
 
-impl QuoteFault {
-    pub fn number(self) -> u16
-        ensures { result ≡ quote_number self }
-    {
+impl Refusal for QuoteFault {
+    ghost number = { quote_number };
+
+    ghost place = { quote_place };
+
+    fn number(self) -> u16 {
         match self {
             QuoteFault::Unreported(fault) => fault.number(),
             QuoteFault::NoAvoidedValue => 8,
         }
     }
 
-    pub fn place(self) -> usize
-        ensures { result ≡ quote_place self }
-    {
+    fn place(self) -> usize {
         match self {
             QuoteFault::Unreported(fault) => fault.place(),
             QuoteFault::NoAvoidedValue => 228,

@@ -1,15 +1,15 @@
 // The quote of a quarter under a rulebook.
-ghost use Rattle.std.specs.Prelude.{◌≡◌};
+ghost use Rattle.std.specs.Prelude.{◌≡◌, [], ◌∷◌, Some};
 ghost use Rattle.pricing.specs.Bounds.{KeepsLaws, QuoteBounded, SourceBounded};
-ghost use Rattle.pricing.specs.Quotes.{Answer, Quoted, Quotes, standing};
+ghost use Rattle.pricing.specs.Quotes.{Answer, Quoted, Quotes, letter, standing};
 
 use crate::fault::QuoteFault;
 use crate::rulebook::Rulebook;
-use crate::ruling::Ruling;
 use figures::gathering::figures_of;
 use figures::quarter_figures::Figures;
 use source::direction::Direction;
 use source::price_source::PriceSource;
+use std::fmt;
 use units::price::Price;
 
 /// The direction that a quote names: up, down, or the avoided activation.
@@ -28,39 +28,49 @@ pub struct Quote {
     pub price: Price,
 }
 
-fn standing_of(direction: Direction) -> QuoteDirection
-    ensures { result ≡ standing direction }
-{
-    match direction {
-        Direction::Up => QuoteDirection::Up,
-        Direction::Down => QuoteDirection::Down,
+impl From<Direction> for QuoteDirection {
+    ghost from_gives = { λ d r. r ≡ standing d };
+
+    fn from(direction: Direction) -> QuoteDirection {
+        match direction {
+            Direction::Up => QuoteDirection::Up,
+            Direction::Down => QuoteDirection::Down,
+        }
+    }
+}
+
+impl fmt::Display for QuoteDirection {
+    ghost output = { λ d. Some (letter d ∷ []) };
+
+    fn fmt<W: fmt::Write>(&self, f: &mut fmt::Formatter<W>) -> fmt::Result {
+        match self {
+            QuoteDirection::Up => write!(f, "U"),
+            QuoteDirection::Down => write!(f, "D"),
+            QuoteDirection::Avoided => write!(f, "A"),
+        }
     }
 }
 
 /// The quote of figures that were worked out before.
 pub fn quote_figures<R: Rulebook>(figures: &Figures, rulebook: &R) -> Result<Quote, QuoteFault>
-    ensures value { Quotes R.Rulebook.code (R.Rulebook.ruling figures.now) figures.now.avoided result }
-    ensures laws_kept { KeepsLaws R.Rulebook.net figures.now (R.Rulebook.ruling figures.now) }
+    ensures value { Quotes R.Rulebook.CODE (R.Rulebook.ruling figures.now) figures.now.avoided result }
+    ensures laws_kept { KeepsLaws R.Rulebook.NET figures.now (R.Rulebook.ruling figures.now) }
     ensures bounds_kept { QuoteBounded figures.now result }
 {
-    let code = R::number();
-    match rulebook.decide(figures) {
-        Ruling::Priced { direction, price } => {
-            Ok(Quote {
-                code,
-                direction: standing_of(direction),
-                price: price.nearest_cent(),
-            })
-        }
-        Ruling::Avoided => match figures.avoided {
-            Some(price) => Ok(Quote {
-                code,
-                direction: QuoteDirection::Avoided,
-                price,
-            }),
-            None => Err(QuoteFault::NoAvoidedValue),
-        },
-    }
+    let code = R::CODE;
+    let Some(priced) = rulebook.decide(figures) else {
+        let price = figures.avoided.ok_or(QuoteFault::NoAvoidedValue)?;
+        return Ok(Quote {
+            code,
+            direction: QuoteDirection::Avoided,
+            price,
+        });
+    };
+    Ok(Quote {
+        code,
+        direction: QuoteDirection::from(priced.direction),
+        price: priced.price.nearest_cent(),
+    })
 }
 
 /// The quote of what a source tells; an unreported slot is refused before a missing avoided value.
@@ -68,8 +78,8 @@ pub fn quote_source<S: PriceSource, R: Rulebook>(
     source: &S,
     rulebook: &R,
 ) -> Result<Quote, QuoteFault>
-    ensures value { Quoted (S.PriceSource.means source.now) R.Rulebook.code R.Rulebook.ruling result }
-    ensures only_answer { (a : Answer) → Quoted (S.PriceSource.means source.now) R.Rulebook.code R.Rulebook.ruling a → a ≡ result }
+    ensures value { Quoted (S.PriceSource.means source.now) R.Rulebook.CODE R.Rulebook.ruling result }
+    ensures only_answer { (a : Answer) → Quoted (S.PriceSource.means source.now) R.Rulebook.CODE R.Rulebook.ruling a → a ≡ result }
     ensures bounds_kept { SourceBounded (S.PriceSource.means source.now) result }
 {
     let figures = figures_of(source)?;

@@ -8,31 +8,24 @@ ghost use Rattle.pricing.specs.Outcomes.{Outcome, net_of, outcome_of};
 use crate::ruling::{Net, Ruling};
 use figures::quarter_figures::Figures;
 
-/// Whatever means one result for each set of figures and keeps the four laws. `number` and `deciding_net`
-/// answer the constants: no law can read a constant under a bound, so the ghosts stand for them there.
+/// Whatever means one result for each set of figures and keeps the four laws, under a fixed code and by a fixed net.
 pub trait Rulebook {
     const CODE: u16;
 
     const NET: Net;
 
-    ghost code: { ℕ };
+    ghost CODE: { ℕ };
 
-    ghost net: { Net };
+    ghost NET: { Net };
 
     ghost ruling: { Figures → Outcome };
-
-    fn number() -> u16
-        ensures { result ≡ code };
-
-    fn deciding_net() -> Net
-        ensures { result ≡ net };
 
     fn decide(&self, figures: &Figures) -> Ruling
         ensures { outcome_of result ≡ ruling figures.now };
 
-    ghost direction: { (f : Figures) → Follows (net_of net f) (ruling f) };
+    ghost direction: { (f : Figures) → Follows (net_of NET f) (ruling f) };
 
-    ghost counting: { (f : Figures) → Heeds (net_of net f) f (ruling f) };
+    ghost counting: { (f : Figures) → Heeds (net_of NET f) f (ruling f) };
 
     ghost formed: { (f : Figures) → FromFormed f (ruling f) };
 

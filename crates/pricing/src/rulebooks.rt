@@ -1,17 +1,16 @@
 // The five rulebooks: four Nordic design options and the Finnish edition.
 ghost use Rattle.std.specs.Prelude.{◌≡◌};
-ghost use Rattle.figures.specs.Components.{component_of, side_in};
+ghost use Rattle.figures.specs.Components.{side_in};
 ghost use Rattle.pricing.specs.declared.ruling.Net.TheVariants.{Local, Zone};
-ghost use Rattle.pricing.specs.Outcomes.{outcome_at, outcome_of, toward};
+ghost use Rattle.pricing.specs.Outcomes.{toward};
 ghost use Rattle.pricing.specs.Rulings.{combined_all, combined_automatic, finnish, max_min, weighted_average, mean_price, automatic_or_manual, mean_or_manual, extreme_counting, finnish_price};
 ghost use Rattle.pricing.specs.Lawful.{follows, heeds, mean_lawful, from_formed, beyond_mean, automatic_lawful, combined_lawful, extreme_lawful, finnish_lawful};
 
 use crate::rulebook::Rulebook;
-use crate::ruling::{Net, Ruling};
+use crate::ruling::{Net, Priced, Ruling};
 use figures::components::extreme_of;
 use figures::quarter_figures::Figures;
 use source::direction::Direction;
-use units::ratio::Ratio;
 
 fn direction_of(net: i64) -> Option<Direction>
     ensures { result ≡ toward net }
@@ -20,15 +19,6 @@ fn direction_of(net: i64) -> Option<Direction>
         1.. => Some(Direction::Up),
         0 => None,
         _ => Some(Direction::Down),
-    }
-}
-
-fn ruled(direction: Direction, price: Option<Ratio>) -> Ruling
-    ensures { outcome_of result ≡ outcome_at direction (component_of price) }
-{
-    match price {
-        Some(price) => Ruling::Priced { direction, price },
-        None => Ruling::Avoided,
     }
 }
 
@@ -41,9 +31,9 @@ impl Rulebook for WeightedAverage {
 
     const NET: Net = Net::Local;
 
-    ghost code = { 1 };
+    ghost CODE = { 1 };
 
-    ghost net = { Local };
+    ghost NET = { Local };
 
     ghost ruling = { weighted_average };
 
@@ -55,19 +45,10 @@ impl Rulebook for WeightedAverage {
 
     ghost mean = { λ f. beyond_mean mean_price mean_lawful f.local_net f };
 
-    fn number() -> u16 {
-        Self::CODE
-    }
-
-    fn deciding_net() -> Net {
-        Self::NET
-    }
-
     fn decide(&self, figures: &Figures) -> Ruling {
-        match direction_of(figures.local_net) {
-            Some(direction) => ruled(direction, figures.weighted_mean(direction)),
-            None => Ruling::Avoided,
-        }
+        let direction = direction_of(figures.local_net)?;
+        let price = figures.weighted_mean(direction)?;
+        Some(Priced { direction, price })
     }
 }
 
@@ -80,9 +61,9 @@ impl Rulebook for CombinedAutomatic {
 
     const NET: Net = Net::Local;
 
-    ghost code = { 2 };
+    ghost CODE = { 2 };
 
-    ghost net = { Local };
+    ghost NET = { Local };
 
     ghost ruling = { combined_automatic };
 
@@ -94,25 +75,11 @@ impl Rulebook for CombinedAutomatic {
 
     ghost mean = { λ f. beyond_mean automatic_or_manual automatic_lawful f.local_net f };
 
-    fn number() -> u16 {
-        Self::CODE
-    }
-
-    fn deciding_net() -> Net {
-        Self::NET
-    }
-
     fn decide(&self, figures: &Figures) -> Ruling {
-        match direction_of(figures.local_net) {
-            Some(direction) => {
-                let manual = figures.counting_manual(direction);
-                ruled(
-                    direction,
-                    extreme_of(direction, figures.automatic_mean(direction), manual),
-                )
-            }
-            None => Ruling::Avoided,
-        }
+        let direction = direction_of(figures.local_net)?;
+        let manual = figures.counting_manual(direction);
+        let price = extreme_of(direction, figures.automatic_mean(direction), manual)?;
+        Some(Priced { direction, price })
     }
 }
 
@@ -125,9 +92,9 @@ impl Rulebook for CombinedAll {
 
     const NET: Net = Net::Local;
 
-    ghost code = { 3 };
+    ghost CODE = { 3 };
 
-    ghost net = { Local };
+    ghost NET = { Local };
 
     ghost ruling = { combined_all };
 
@@ -139,25 +106,11 @@ impl Rulebook for CombinedAll {
 
     ghost mean = { λ f. beyond_mean mean_or_manual combined_lawful f.local_net f };
 
-    fn number() -> u16 {
-        Self::CODE
-    }
-
-    fn deciding_net() -> Net {
-        Self::NET
-    }
-
     fn decide(&self, figures: &Figures) -> Ruling {
-        match direction_of(figures.local_net) {
-            Some(direction) => {
-                let manual = figures.counting_manual(direction);
-                ruled(
-                    direction,
-                    extreme_of(direction, figures.weighted_mean(direction), manual),
-                )
-            }
-            None => Ruling::Avoided,
-        }
+        let direction = direction_of(figures.local_net)?;
+        let manual = figures.counting_manual(direction);
+        let price = extreme_of(direction, figures.weighted_mean(direction), manual)?;
+        Some(Priced { direction, price })
     }
 }
 
@@ -170,9 +123,9 @@ impl Rulebook for MaxMin {
 
     const NET: Net = Net::Local;
 
-    ghost code = { 4 };
+    ghost CODE = { 4 };
 
-    ghost net = { Local };
+    ghost NET = { Local };
 
     ghost ruling = { max_min };
 
@@ -184,25 +137,11 @@ impl Rulebook for MaxMin {
 
     ghost mean = { λ f. beyond_mean extreme_counting extreme_lawful f.local_net f };
 
-    fn number() -> u16 {
-        Self::CODE
-    }
-
-    fn deciding_net() -> Net {
-        Self::NET
-    }
-
     fn decide(&self, figures: &Figures) -> Ruling {
-        match direction_of(figures.local_net) {
-            Some(direction) => {
-                let manual = figures.counting_manual(direction);
-                ruled(
-                    direction,
-                    extreme_of(direction, figures.counting_cycles(direction), manual),
-                )
-            }
-            None => Ruling::Avoided,
-        }
+        let direction = direction_of(figures.local_net)?;
+        let manual = figures.counting_manual(direction);
+        let price = extreme_of(direction, figures.counting_cycles(direction), manual)?;
+        Some(Priced { direction, price })
     }
 }
 
@@ -215,9 +154,9 @@ impl Rulebook for Finnish {
 
     const NET: Net = Net::Zone;
 
-    ghost code = { 5 };
+    ghost CODE = { 5 };
 
-    ghost net = { Zone };
+    ghost NET = { Zone };
 
     ghost ruling = { finnish };
 
@@ -229,27 +168,12 @@ impl Rulebook for Finnish {
 
     ghost mean = { λ f. beyond_mean finnish_price finnish_lawful f.zone_net.kw f };
 
-    fn number() -> u16 {
-        Self::CODE
-    }
-
-    fn deciding_net() -> Net {
-        Self::NET
-    }
-
     fn decide(&self, figures: &Figures) -> Ruling {
-        match direction_of(figures.zone_net.kw()) {
-            Some(direction) if figures.manual_counts(direction) => {
-                ruled(direction, figures.weighted_mean(direction))
-            }
-            Some(direction) => {
-                let formed = figures.formed_manual(direction);
-                ruled(
-                    direction,
-                    extreme_of(direction, figures.automatic_mean(direction), formed),
-                )
-            }
-            None => Ruling::Avoided,
-        }
+        let direction = direction_of(figures.zone_net.kw())?;
+        let price = match figures.automatic_mean(direction) {
+            _ if figures.manual_counts(direction) => figures.weighted_mean(direction),
+            mean => extreme_of(direction, mean, figures.formed_manual(direction)),
+        };
+        price.map(|price| Priced { direction, price })
     }
 }

@@ -2,12 +2,15 @@
 use source::direction::Direction;
 use units::ratio::Ratio;
 
-/// Avoided, or a direction with its exact price.
+/// A direction with its exact price.
 #[derive(Clone, Copy)]
-pub enum Ruling {
-    Avoided,
-    Priced { direction: Direction, price: Ratio },
+pub struct Priced {
+    pub direction: Direction,
+    pub price: Ratio,
 }
+
+/// The priced direction, or nothing where the result is avoided.
+pub type Ruling = Option<Priced>;
 
 /// The net whose sign decides the direction.
 #[derive(Clone, Copy, PartialEq, Eq)]
