@@ -5,4 +5,3 @@ pub mod RowTrips
 pub mod SheetTrips
 pub mod SlotTrips
 pub mod WriteRows
-pub mod WriteSteps

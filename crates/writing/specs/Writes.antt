@@ -1,10 +1,6 @@
--- Bytes written over others, and what a writer answers and leaves.
+-- What a writer answers and leaves.
 use Rattle.std.specs.Prelude.{ℕ, ◌+◌, cond, List, ◌++◌, length, take, drop, Ok, Err, Result, nat_lt}
 use Rattle.writing.specs.declared.short_buffer.ShortBuffer.{ShortBuffer}
-
--- s over d, from the place at on; the other bytes of d stay
-unfoldable pub over : List ℕ → ℕ → List ℕ → List ℕ
-over d at s = take at d ++ (s ++ drop (at + length s) d)
 
 -- the length of the sheet s, or the refusal where the buffer is shorter
 abbrev pub written : List ℕ → List ℕ → Result ℕ ShortBuffer

@@ -1,6 +1,7 @@
 // The refusal of a buffer.
-ghost use Rattle.std.specs.Prelude.{◌≡◌};
 ghost use Rattle.writing.specs.Writes.{buffer_number, buffer_place};
+
+use units::refusal::Refusal;
 
 /// The buffer is too short to write in.
 #[derive(Clone, Copy, Debug)]
@@ -8,16 +9,16 @@ pub struct ShortBuffer {
     pub needed: usize,
 }
 
-impl ShortBuffer {
-    pub fn number(self) -> u16
-        ensures { result ≡ buffer_number self }
-    {
+impl Refusal for ShortBuffer {
+    ghost number = { buffer_number };
+
+    ghost place = { buffer_place };
+
+    fn number(self) -> u16 {
         15
     }
 
-    pub fn place(self) -> usize
-        ensures { result ≡ buffer_place self }
-    {
+    fn place(self) -> usize {
         self.needed
     }
 }

@@ -1,52 +1,12 @@
 // A slot, written: its lead byte, its demand and the prices formed for it.
-ghost use Rattle.std.specs.Prelude.{◌≡◌, ◌+◌, ◌≤◌, length};
+ghost use Rattle.std.specs.Prelude.{◌≡◌, ◌+◌, ◌≤◌, ◌++◌};
+ghost use Rattle.arrayvec.specs.ArrayVec.{array_vec_len};
 ghost use Rattle.sheet.specs.Readers.{by_prices};
-ghost use Rattle.writing.specs.Bytes.{avoided_bytes, number_bytes, price_bytes, reading_bytes, slot_bytes};
-ghost use Rattle.writing.specs.Writes.{over};
+ghost use Rattle.writing.specs.Bytes.{avoided_bytes, price_bytes, reading_bytes, slot_bytes};
 
-use crate::number::{fold_demand, fold_price, groups_len, put_bytes, put_groups};
+use crate::number::{SheetBytes, put_quantity};
 use source::slot::{Reading, Slot};
-use units::demand::Demand;
 use units::price::Price;
-
-fn demand_len(demand: Demand) -> usize
-    ensures value { result ≡ length (number_bytes demand.kw) }
-    ensures few { result ≤ 4 }
-{
-    groups_len(fold_demand(demand))
-}
-
-fn price_len(price: Option<Price>) -> usize
-    ensures value { result ≡ length (price_bytes price) }
-    ensures few { result ≤ 4 }
-{
-    match price {
-        Some(price) => groups_len(fold_price(price)),
-        None => 0,
-    }
-}
-
-pub(crate) fn avoided_len(avoided: Option<Price>) -> usize
-    ensures value { result ≡ length (avoided_bytes avoided) }
-    ensures few { result ≤ 5 }
-{
-    match avoided {
-        Some(price) => 1 + groups_len(fold_price(price)),
-        None => 1,
-    }
-}
-
-pub(crate) fn slot_len(slot: Slot) -> usize
-    ensures value { result ≡ length (slot_bytes slot) }
-    ensures few { result ≤ 13 }
-{
-    match slot {
-        Slot::Unreported => 1,
-        Slot::Reported(reading) => {
-            1 + demand_len(reading.demand) + price_len(reading.up) + price_len(reading.down)
-        }
-    }
-}
 
 fn lead_of(up: Option<Price>, down: Option<Price>) -> u8
     ensures { result ≡ by_prices up down }
@@ -59,57 +19,48 @@ fn lead_of(up: Option<Price>, down: Option<Price>) -> u8
     }
 }
 
-fn put_demand(out: &mut [u8], at: usize, demand: Demand) -> usize
-    requires { at + length (number_bytes demand.kw) ≤ length out.old }
-    ensures end { result ≡ at + length (number_bytes demand.kw) }
-    ensures bytes { out.new ≡ over out.old at (number_bytes demand.kw) }
+fn put_price(out: &mut SheetBytes, price: Option<Price>)
+    requires { array_vec_len out.old + 4 ≤ 2_977 }
+    ensures bytes { out.new.items ≡ out.old.items ++ price_bytes price }
+    ensures len { array_vec_len out.new ≤ array_vec_len out.old + 4 }
 {
-    put_groups(out, at, fold_demand(demand))
-}
-
-fn put_price(out: &mut [u8], at: usize, price: Option<Price>) -> usize
-    requires { at + length (price_bytes price) ≤ length out.old }
-    ensures end { result ≡ at + length (price_bytes price) }
-    ensures bytes { out.new ≡ over out.old at (price_bytes price) }
-{
-    match price {
-        Some(price) => put_groups(out, at, fold_price(price)),
-        None => at,
+    if let Some(price) = price {
+        put_quantity(out, price);
     }
 }
 
-pub(crate) fn put_avoided(out: &mut [u8], at: usize, avoided: Option<Price>) -> usize
-    requires { at + length (avoided_bytes avoided) ≤ length out.old }
-    ensures end { result ≡ at + length (avoided_bytes avoided) }
-    ensures bytes { out.new ≡ over out.old at (avoided_bytes avoided) }
+pub(crate) fn put_avoided(out: &mut SheetBytes, avoided: Option<Price>)
+    requires { array_vec_len out.old + 5 ≤ 2_977 }
+    ensures bytes { out.new.items ≡ out.old.items ++ avoided_bytes avoided }
+    ensures len { array_vec_len out.new ≤ array_vec_len out.old + 5 }
 {
     match avoided {
         Some(price) => {
-            let next = put_bytes(out, at, &[1]);
-            put_groups(out, next, fold_price(price))
+            out.push(1);
+            put_quantity(out, price);
         }
-        None => put_bytes(out, at, &[0]),
+        None => out.push(0),
     }
 }
 
-fn put_reading(out: &mut [u8], at: usize, reading: Reading) -> usize
-    requires { at + length (reading_bytes reading) ≤ length out.old }
-    ensures end { result ≡ at + length (reading_bytes reading) }
-    ensures bytes { out.new ≡ over out.old at (reading_bytes reading) }
+fn put_reading(out: &mut SheetBytes, reading: Reading)
+    requires { array_vec_len out.old + 13 ≤ 2_977 }
+    ensures bytes { out.new.items ≡ out.old.items ++ reading_bytes reading }
+    ensures len { array_vec_len out.new ≤ array_vec_len out.old + 13 }
 {
-    let demand = put_bytes(out, at, &[lead_of(reading.up, reading.down)]);
-    let up = put_demand(out, demand, reading.demand);
-    let down = put_price(out, up, reading.up);
-    put_price(out, down, reading.down)
+    out.push(lead_of(reading.up, reading.down));
+    put_quantity(out, reading.demand);
+    put_price(out, reading.up);
+    put_price(out, reading.down);
 }
 
-pub(crate) fn put_slot(out: &mut [u8], at: usize, slot: Slot) -> usize
-    requires { at + length (slot_bytes slot) ≤ length out.old }
-    ensures end { result ≡ at + length (slot_bytes slot) }
-    ensures bytes { out.new ≡ over out.old at (slot_bytes slot) }
+pub(crate) fn put_slot(out: &mut SheetBytes, slot: Slot)
+    requires { array_vec_len out.old + 13 ≤ 2_977 }
+    ensures bytes { out.new.items ≡ out.old.items ++ slot_bytes slot }
+    ensures len { array_vec_len out.new ≤ array_vec_len out.old + 13 }
 {
     match slot {
-        Slot::Unreported => put_bytes(out, at, &[0]),
-        Slot::Reported(reading) => put_reading(out, at, reading),
+        None => out.push(0),
+        Some(reading) => put_reading(out, reading),
     }
 }

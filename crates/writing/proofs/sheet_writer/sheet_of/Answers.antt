@@ -1,0 +1,30 @@
+use Rattle.std.proofs.Common.{◌≡◌, ◌≤◌, length, ap, ◌∙◌, arith}
+use Rattle.std.proofs.lemmas.List.{take_all}
+use Rattle.sheet.specs.Heads.{opening}
+use Rattle.writing.specs.Bytes.{head_bytes}
+use Rattle.writing.proofs.WriteRows.{all_put, head_put, slot_put}
+use Rattle.writing.proofs.sheet_writer.sheet_of.Goals as goal
+
+pub loop-slot-init : goal.loop-slot-init
+loop-slot-init g c =
+    let m = g.S.PriceSource.means c.args.source.now in
+    let i : 4 ≤ c.loop-byte.byte-index = omega arith in
+    let n : length c.loop-byte.sheet.items ≡ 4 = ap length (c.loop-byte.invariant ∙ take_all c.loop-byte.byte-index opening i) in
+    let q = c.put_quantity.ensures in
+    let p = c.put_avoided.ensures in
+    record {
+      written = head_put m c.loop-byte.byte-index c.zone_net.result c.avoided.result c.loop-byte.sheet.items _ _ i c.zone_net.ensures c.avoided.ensures c.loop-byte.invariant q.bytes p.bytes;
+      few = omega (arith, n, q.len, p.len);
+    }
+
+pub loop-slot-preserved : goal.loop-slot-preserved
+loop-slot-preserved g c =
+    let m = g.S.PriceSource.means c.args.source.now in
+    let p = c.put_slot.ensures in
+    record {
+      written = slot_put m.slots c.loop-slot.slot c.told.result (head_bytes m) _ _ (c.told.ensures (omega arith)) c.loop-slot.invariant.written p.bytes;
+      few = omega (arith, p.len, c.loop-slot.invariant.few);
+    }
+
+pub returns : goal.returns
+returns g c = all_put (g.S.PriceSource.means c.args.source.now) c.loop-slot.slot _ (omega arith) c.loop-slot.invariant.written
