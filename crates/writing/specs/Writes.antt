@@ -1,5 +1,5 @@
 -- What a writer answers and leaves.
-use Rattle.std.specs.Prelude.{ℕ, ◌+◌, cond, List, ◌++◌, length, take, drop, Ok, Err, Result, nat_lt}
+use Rattle.std.specs.Prelude.{ℕ, cond, List, ◌++◌, length, drop, Ok, Err, Result, nat_lt}
 use Rattle.writing.specs.declared.short_buffer.ShortBuffer.{ShortBuffer}
 
 -- the length of the sheet s, or the refusal where the buffer is shorter
