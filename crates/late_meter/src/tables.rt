@@ -71,11 +71,13 @@ pub(crate) const QUARTERS: [Told; 4] = [
     },
 ];
 
-/// A row for each slot; the direct manual slots are idle.
-pub(crate) fn rows_of(cycle: Row, scheduled: Row) -> [Row; 228] {
-    let mut rows = [cycle; 228];
-    rows[225] = scheduled;
-    rows[226] = IDLE;
-    rows[227] = IDLE;
-    rows
+impl Told {
+    /// A row for each slot; the direct manual slots are idle.
+    pub(crate) fn rows(&self) -> [Row; 228] {
+        let mut rows = [self.cycle; 228];
+        rows[225] = self.scheduled;
+        rows[226] = IDLE;
+        rows[227] = IDLE;
+        rows
+    }
 }
