@@ -102,21 +102,14 @@ impl Dice {
 
     // In a manual slot half of the demands are 0, so that formed prices decide under code 5.
     fn slot(&mut self, kind: Kind, place: usize) -> Plain {
-        let absent = match kind {
-            Kind::Gaps if self.roll(300) == 0 => Some(UNREPORTED),
-            Kind::Sparse if self.roll(16) != 0 => Some(IDLE),
-            _ => None,
-        };
-        if let Some(slot) = absent {
-            return slot;
+        match kind {
+            Kind::Gaps if self.roll(300) == 0 => return UNREPORTED,
+            Kind::Sparse if self.roll(16) != 0 => return IDLE,
+            _ => {}
         }
         let idle = place >= CYCLES && self.roll(2) == 0;
         Plain {
-            kw: if idle {
-                Some(0)
-            } else {
-                Some(self.number(kind, DEMAND))
-            },
+            kw: Some(if idle { 0 } else { self.number(kind, DEMAND) }),
             up: self.price(kind, 3),
             down: self.price(kind, 3),
         }

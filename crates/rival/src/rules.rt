@@ -43,6 +43,16 @@ enum Direction {
     Down,
 }
 
+impl Direction {
+    fn of(net: i64) -> Option<Direction> {
+        match net {
+            1.. => Some(Direction::Up),
+            0 => None,
+            _ => Some(Direction::Down),
+        }
+    }
+}
+
 // A slot with a price, as a direction sees it: the volume that counts, and the price formed.
 #[derive(Clone, Copy)]
 struct Seen {
@@ -127,6 +137,14 @@ impl View<'_> {
             Rules::Finnish => higher(automatic, self.highest(|seen| seen.is_manual())),
         }
     }
+
+    fn quote(&self, rules: Rules) -> Option<Quote> {
+        let cents = self.exact(rules)?.nearest();
+        Some(match self.direction {
+            Direction::Up => Quote::Up(cents),
+            Direction::Down => Quote::Down(cents.wrapping_neg()),
+        })
+    }
 }
 
 fn local_net(quarter: &Quarter) -> i64 {
@@ -146,18 +164,8 @@ pub(crate) fn quote_of(quarter: &Quarter, rules: Rules) -> Result<Quote, Fault> 
         Rules::Finnish => quarter.zone_net,
         _ => local_net(quarter),
     };
-    let direction = if net > 0 {
-        Direction::Up
-    } else {
-        Direction::Down
-    };
-    let price = View { quarter, direction }
-        .exact(rules)
-        .filter(|_| net != 0);
-    let quote = price.map(|price| match direction {
-        Direction::Up => Quote::Up(price.nearest()),
-        Direction::Down => Quote::Down(price.nearest().wrapping_neg()),
-    });
+    let direction = Direction::of(net);
+    let quote = direction.and_then(|direction| View { quarter, direction }.quote(rules));
     let avoided = quarter.avoided.map(Quote::Avoided);
     quote.or(avoided).ok_or(Refusal::NoAvoided.at(SLOTS))
 }
