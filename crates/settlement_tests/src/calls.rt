@@ -23,19 +23,10 @@ pub(crate) fn price(
         up: None,
         down: None,
     }; 228];
-    let told = if slots < 228 {
-        &rows[0..slots]
-    } else {
-        &rows[0..228]
-    };
-    let avoided = match cents {
-        Some(cents) => Price::new(cents).ok(),
-        None => None,
-    };
     let table = Table {
-        rows: told,
+        rows: &rows[..slots.min(228)],
         zone_net: ZoneNet::zero(),
-        avoided,
+        avoided: cents.and_then(|cents| Price::new(cents).ok()),
     };
     book.price(period, &table, &Finnish)
 }
@@ -62,8 +53,5 @@ pub(crate) fn meter(
 
 /// Whether a call was refused with this number at this place.
 pub(crate) fn refused<T: Drop>(answer: Result<T, BookFault>, number: u16, place: usize) -> bool {
-    match answer {
-        Ok(_) => false,
-        Err(fault) => fault.number() == number && fault.place() == place,
-    }
+    answer.is_err_and(|fault| fault.number() == number && fault.place() == place)
 }
