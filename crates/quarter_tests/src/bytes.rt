@@ -11,14 +11,12 @@ pub(crate) enum Formed {
 
 #[derive(Drop)]
 pub(crate) struct Bytes {
-    heap: Global,
     pub sheet: Vec<u8>,
 }
 
 impl Bytes {
     pub(crate) fn new(heap: Global, front: &[u8]) -> Result<Bytes, AllocError> {
         Ok(Bytes {
-            heap,
             sheet: Vec::from_slice(heap, front)?,
         })
     }
@@ -41,9 +39,7 @@ impl Bytes {
     /// A front and so many zero bytes.
     pub(crate) fn zeros(heap: Global, front: &[u8], count: usize) -> Result<Bytes, AllocError> {
         let mut bytes = Bytes::new(heap, front)?;
-        for _ in 0..count {
-            bytes.byte(0)?;
-        }
+        bytes.sheet.resize(front.len().saturating_add(count), 0)?;
         Ok(bytes)
     }
 
@@ -93,6 +89,6 @@ impl Bytes {
     /// What the program prints of the sheet.
     pub(crate) fn printed(&self) -> Result<String, AllocError> {
         let lines = lines_of(self.sheet.as_slice());
-        format!(in self.heap; "{lines}")
+        format!(in *self.sheet.allocator(); "{lines}")
     }
 }
