@@ -9,6 +9,6 @@ pub(crate) enum Halt {
     Start(#[from] StartFault),
     #[error("the book refuses a call: {0:?}")]
     Book(#[from] BookFault),
-    #[error("{0}")]
+    #[error(transparent)]
     Io(#[from] io::Error),
 }

@@ -62,6 +62,14 @@ fn cents_of(quarter: Quarter) -> Option<i64> {
 }
 
 impl Metered {
+    fn values(&self) -> MeterValues<'_> {
+        MeterValues {
+            schedules: &self.schedules,
+            allocated: self.allocated,
+            adjustment: self.adjustment,
+        }
+    }
+
     fn imbalance(&self) -> i64 {
         let position = self
             .schedules
@@ -100,12 +108,7 @@ impl Day {
     }
 
     pub(crate) fn meter(&mut self, period: usize, party: usize, metered: &Metered) -> Replies {
-        let values = MeterValues {
-            schedules: &metered.schedules,
-            allocated: metered.allocated,
-            adjustment: metered.adjustment,
-        };
-        let answer = self.book.meter(period, party, &values);
+        let answer = self.book.meter(period, party, &metered.values());
         Replies::new(
             self.ledger.meter(period, party, metered.imbalance()),
             answer.map(|imbalance| Some(imbalance.kwh())),

@@ -6,9 +6,9 @@ pub(crate) enum Refusal {
     Ends = 1,
     Opening = 2,
     Form = 3,
-    Lead = 4,
+    UnknownByte = 4,
     Bounds = 5,
-    Rest = 6,
+    After = 6,
     Unreported = 7,
     NoAvoided = 8,
     PeriodOutOfRange = 9,
@@ -37,7 +37,7 @@ pub(crate) struct Fault {
     pub place: usize,
 }
 
-/// What either calculation's fault has to show for itself, to be compared.
+/// The number and the place of a fault, which both calculations have.
 #[derive(Clone, Copy, PartialEq, Eq)]
 pub(crate) struct Numbered {
     pub number: u16,

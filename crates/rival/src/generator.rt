@@ -21,7 +21,7 @@ pub(crate) enum Kind {
     Beyond,
 }
 
-/// The kinds in the order in which they take turns.
+/// The kinds in the order of the quarters.
 pub(crate) static KINDS: [Kind; 7] = [
     Kind::Wide,
     Kind::Small,
@@ -150,13 +150,13 @@ impl Dice {
             _ => Damage::Added(noise),
         };
         let mut out = Vec::from_slice(heap, sheet)?;
-        damage.strike(&mut out, place)?;
+        damage.apply(&mut out, place)?;
         Ok(out)
     }
 }
 
 impl Damage {
-    fn strike(self, sheet: &mut Vec<u8>, place: usize) -> Result<(), AllocError> {
+    fn apply(self, sheet: &mut Vec<u8>, place: usize) -> Result<(), AllocError> {
         match self {
             Damage::Cut => sheet.truncate(place),
             Damage::Changed(change) => {

@@ -381,16 +381,13 @@ pub(crate) static CASES: [Case; 22] = [
 ];
 
 impl Block {
-    fn holds(&self, place: usize) -> bool {
-        place >= self.0 && place <= self.1
-    }
-
-    fn slot(&self) -> Plain {
-        Plain {
-            kw: Some(self.2),
-            up: self.3,
-            down: self.4,
-        }
+    fn slot(&self, place: usize) -> Option<Plain> {
+        let Block(first, last, kw, up, down) = *self;
+        (first..=last).contains(&place).then_some(Plain {
+            kw: Some(kw),
+            up,
+            down,
+        })
     }
 }
 
@@ -411,8 +408,8 @@ fn coarse(quote: Quote, unit: u32) -> Quote {
 
 impl Case {
     fn slot(&self, place: usize) -> Plain {
-        let block = self.blocks.iter().find(|block| block.holds(place));
-        block.map_or(IDLE, |block| block.slot())
+        let told = self.blocks.iter().find_map(|block| block.slot(place));
+        told.unwrap_or(IDLE)
     }
 
     pub(crate) fn quarter(&self) -> Quarter {

@@ -74,7 +74,7 @@ impl Reader<'_> {
         match self.byte()? {
             0 => Ok(None),
             1 => self.price(),
-            _ => Err(Refusal::Lead.at(place)),
+            _ => Err(Refusal::UnknownByte.at(place)),
         }
     }
 
@@ -82,7 +82,7 @@ impl Reader<'_> {
         let place = self.at;
         let lead = self.byte()?;
         if lead > 4 {
-            return Err(Refusal::Lead.at(place));
+            return Err(Refusal::UnknownByte.at(place));
         }
         if lead == 0 {
             return Ok(UNREPORTED);
@@ -100,7 +100,7 @@ impl Reader<'_> {
 
     fn end(&self) -> Result<(), Fault> {
         if self.at < self.bytes.len() {
-            return Err(Refusal::Rest.at(self.at));
+            return Err(Refusal::After.at(self.at));
         }
         Ok(())
     }

@@ -17,14 +17,7 @@ pub(crate) struct Report<'a> {
 
 // The lines of a text in one.
 fn in_one(heap: Global, text: &str) -> Result<String, AllocError> {
-    let mut out = String::new(heap);
-    for line in text.lines() {
-        if !out.is_empty() {
-            out.push_str(", ")?;
-        }
-        out.push_str(line)?;
-    }
-    Ok(out)
+    text.trim_end().replace(heap, '\n', ", ")
 }
 
 impl Report<'_> {
@@ -51,17 +44,16 @@ impl Report<'_> {
     // Ends a line with whether both agree.
     fn ended(&mut self, same: bool) -> io::Result<()> {
         self.count(same);
-        let rt = self.rt;
-        rt.println(if same { "; the same" } else { "; A DIFFERENCE" })
+        self.rt
+            .println(if same { "; the same" } else { "; A DIFFERENCE" })
     }
 
     pub(crate) fn named(&mut self, name: &str, both: &Both, stated: bool) -> io::Result<()> {
-        let rt = self.rt;
-        let rival = in_one(rt.alloc(), both.rival.as_str())?;
-        print!(rt; "{name}: {rival}")?;
+        let rival = in_one(self.rt.alloc(), both.rival.as_str())?;
+        print!(self.rt; "{name}: {rival}")?;
         if !both.agree() {
-            let library = in_one(rt.alloc(), both.library.as_str())?;
-            print!(rt; "; the library: {library}")?;
+            let library = in_one(self.rt.alloc(), both.library.as_str())?;
+            print!(self.rt; "; the library: {library}")?;
         }
         self.ended(both.agree() && stated)
     }
@@ -73,29 +65,26 @@ impl Report<'_> {
         before: bool,
         stated: i64,
     ) -> io::Result<()> {
-        let rt = self.rt;
         let cents = paid.rival.ok().flatten().unwrap_or(0);
-        print!(rt; "{name}: {}", Euros(cents))?;
+        print!(self.rt; "{name}: {}", Euros(cents))?;
         self.ended(before && paid.agree() && cents == stated)
     }
 
     // A line at the end of each span of so many cases.
     fn span(&self, what: &str, number: u64, size: u64) -> io::Result<()> {
-        let rt = self.rt;
         let done = number.saturating_add(1);
         if done.checked_rem(size) != Some(0) {
             return Ok(());
         }
         let first = done.saturating_sub(size);
         let differences = self.differences;
-        println!(rt; "{what} {first} to {number}: differences so far {differences}")
+        println!(self.rt; "{what} {first} to {number}: differences so far {differences}")
     }
 
     pub(crate) fn call(&mut self, number: u64, replies: &Replies) -> io::Result<()> {
-        let rt = self.rt;
         let same = replies.agree();
         if !same && self.differences == 0 {
-            println!(rt; "call {number} of the book: A DIFFERENCE")?;
+            println!(self.rt; "call {number} of the book: A DIFFERENCE")?;
         }
         self.count(same);
         self.span("calls of the book", number, 500)
@@ -109,13 +98,12 @@ impl Report<'_> {
         both: &Both,
         table: bool,
     ) -> io::Result<()> {
-        let rt = self.rt;
         let same = table && both.agree();
         if !same && self.differences == 0 {
             let rival = both.rival.as_str();
             let library = both.library.as_str();
-            println!(rt; "quarter {number}, its table alike: {table}")?;
-            println!(rt; "{rival}the library:\n{library}{sheet:?}")?;
+            println!(self.rt; "quarter {number}, its table alike: {table}")?;
+            println!(self.rt; "{rival}the library:\n{library}{sheet:?}")?;
         }
         self.count(same);
         self.tallies.add(both.outcome);
@@ -124,11 +112,10 @@ impl Report<'_> {
 
     /// The closing lines.
     pub(crate) fn close(&self) -> io::Result<()> {
-        let rt = self.rt;
-        println!(rt; "other: {}", self.tallies.other)?;
+        println!(self.rt; "other: {}", self.tallies.other)?;
         for tally in self.tallies.rows.iter() {
-            println!(rt; "{}: {}", tally.outcome, tally.count)?;
+            println!(self.rt; "{}: {}", tally.outcome, tally.count)?;
         }
-        println!(rt; "{} cases, {} differences", self.cases, self.differences)
+        println!(self.rt; "{} cases, {} differences", self.cases, self.differences)
     }
 }
