@@ -1,7 +1,6 @@
 // Calls with plain numbers.
 use metering::imbalance::Imbalance;
 use metering::meter_values::MeterValues;
-use pricing::rulebook::Rulebook;
 use pricing::rulebooks::Finnish;
 use settlement::book::Book;
 use settlement::fault::BookFault;
