@@ -1,28 +1,14 @@
 // Why the program stops before its end.
 use settlement::fault::{BookFault, StartFault};
 use std::io;
+use thiserror::Error;
 
-#[derive(Debug, Drop)]
+#[derive(Debug, Drop, Error)]
 pub(crate) enum Halt {
-    Start(StartFault),
-    Book(BookFault),
-    Io(io::Error),
-}
-
-impl From<StartFault> for Halt {
-    fn from(fault: StartFault) -> Halt {
-        Halt::Start(fault)
-    }
-}
-
-impl From<BookFault> for Halt {
-    fn from(fault: BookFault) -> Halt {
-        Halt::Book(fault)
-    }
-}
-
-impl From<io::Error> for Halt {
-    fn from(error: io::Error) -> Halt {
-        Halt::Io(error)
-    }
+    #[error("the book is not started: {0:?}")]
+    Start(#[from] StartFault),
+    #[error("the book refuses a call: {0:?}")]
+    Book(#[from] BookFault),
+    #[error(transparent)]
+    Io(#[from] io::Error),
 }

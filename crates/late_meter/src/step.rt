@@ -36,26 +36,22 @@ pub(crate) struct Metered {
 }
 
 #[derive(Clone, Copy)]
-struct Filed {
-    quote: Quote,
-}
-
-fn letter(direction: QuoteDirection) -> &'static str {
-    match direction {
-        QuoteDirection::Up => "U",
-        QuoteDirection::Down => "D",
-        QuoteDirection::Avoided => "A",
-    }
-}
+struct Filed(Option<Quote>);
 
 impl fmt::Display for Filed {
     fn fmt<W: fmt::Write>(&self, f: &mut fmt::Formatter<W>) -> fmt::Result {
-        let code = self.quote.code;
-        let letter = letter(self.quote.direction);
-        let euros = Amount {
-            cents: self.quote.price.cents(),
+        let Some(quote) = self.0 else {
+            return write!(f, "blank");
         };
-        write!(f, "code {code}, {letter} {euros} EUR/MWh")
+        let letter = match quote.direction {
+            QuoteDirection::Up => "U",
+            QuoteDirection::Down => "D",
+            QuoteDirection::Avoided => "A",
+        };
+        let euros = Amount {
+            cents: quote.price.cents(),
+        };
+        write!(f, "code {}, {letter} {euros} EUR/MWh", quote.code)
     }
 }
 
@@ -63,19 +59,10 @@ impl fmt::Display for Metered {
     fn fmt<W: fmt::Write>(&self, f: &mut fmt::Formatter<W>) -> fmt::Result {
         let period = self.period;
         let party = self.party;
+        write!(f, "meter quarter {period}, party {party}: ")?;
         match self.answer {
-            Ok(imbalance) => {
-                let kwh = imbalance.kwh();
-                write!(f, "meter quarter {period}, party {party}: {kwh} kWh")
-            }
-            Err(fault) => {
-                let number = fault.number();
-                let place = fault.place();
-                write!(
-                    f,
-                    "meter quarter {period}, party {party}: refused, {number} at {place}"
-                )
-            }
+            Ok(imbalance) => write!(f, "{} kWh", imbalance.kwh()),
+            Err(fault) => write!(f, "refused, {} at {}", fault.number(), fault.place()),
         }
     }
 }
@@ -86,13 +73,10 @@ impl fmt::Display for Step {
             Step::Started { periods, parties } => {
                 write!(f, "start: {periods} quarters, {parties} parties")
             }
-            Step::Priced { period, quarter } => match quarter.quote() {
-                Some(quote) => {
-                    let filed = Filed { quote };
-                    write!(f, "price quarter {period}: {filed}")
-                }
-                None => write!(f, "price quarter {period}: blank"),
-            },
+            Step::Priced { period, quarter } => {
+                let filed = Filed(quarter.quote());
+                write!(f, "price quarter {period}: {filed}")
+            }
             Step::Metered(metered) => write!(f, "{metered}"),
             Step::Closed { period } => write!(f, "close quarter {period}"),
             Step::Settled {

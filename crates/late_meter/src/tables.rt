@@ -21,20 +21,20 @@ pub(crate) const QUARTERS: [Told; 4] = [
         cycle: Row {
             demand: 80_000,
             up: Some(10_000),
-            down: None,
+            ..IDLE
         },
         scheduled: Row {
             demand: 200_000,
             up: Some(5_000),
-            down: None,
+            ..IDLE
         },
         zone_net: 200_000,
     },
     Told {
         cycle: Row {
             demand: -80_000,
-            up: None,
             down: Some(2_000),
+            ..IDLE
         },
         scheduled: Row {
             demand: -120_000,
@@ -46,8 +46,8 @@ pub(crate) const QUARTERS: [Told; 4] = [
     Told {
         cycle: Row {
             demand: -120_000,
-            up: None,
             down: Some(4_000),
+            ..IDLE
         },
         scheduled: Row {
             demand: 200_000,
@@ -60,22 +60,24 @@ pub(crate) const QUARTERS: [Told; 4] = [
         cycle: Row {
             demand: 200_000,
             up: Some(5_000),
-            down: None,
+            ..IDLE
         },
         scheduled: Row {
             demand: 0,
             up: Some(10_000),
-            down: None,
+            ..IDLE
         },
         zone_net: 400_000,
     },
 ];
 
-/// A row for each slot; the direct manual slots are idle.
-pub(crate) fn rows_of(cycle: Row, scheduled: Row) -> [Row; 228] {
-    let mut rows = [cycle; 228];
-    rows[225] = scheduled;
-    rows[226] = IDLE;
-    rows[227] = IDLE;
-    rows
+impl Told {
+    /// A row for each slot; the direct manual slots are idle.
+    pub(crate) fn rows(&self) -> [Row; 228] {
+        let mut rows = [self.cycle; 228];
+        rows[225] = self.scheduled;
+        rows[226] = IDLE;
+        rows[227] = IDLE;
+        rows
+    }
 }

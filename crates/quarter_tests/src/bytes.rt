@@ -2,83 +2,93 @@
 use lines::quarter_lines::lines_of;
 use std::alloc::{AllocError, Global};
 
-pub(crate) fn put_number(out: &mut Vec<u8>, n: i32) -> Result<(), AllocError> {
-    let wide = n as i64;
-    let mut rest = if wide < 0 {
-        2 * wide.unsigned_abs() - 1
-    } else {
-        2 * wide.unsigned_abs()
-    };
-    for _ in 0..5 {
-        if rest < 128 {
-            out.push((rest % 128) as u8)?;
-            return Ok(());
+/// The direction of a slot's one price, with the lead byte that tells it.
+#[derive(Clone, Copy)]
+pub(crate) enum Formed {
+    Up = 2,
+    Down = 3,
+}
+
+#[derive(Drop)]
+pub(crate) struct Bytes {
+    pub sheet: Vec<u8>,
+}
+
+impl Bytes {
+    pub(crate) fn new(heap: Global, front: &[u8]) -> Result<Bytes, AllocError> {
+        Ok(Bytes {
+            sheet: Vec::from_slice(heap, front)?,
+        })
+    }
+
+    /// The opening, the zone net and the avoided value.
+    pub(crate) fn head(
+        heap: Global,
+        zone_net: i32,
+        avoided: Option<i32>,
+    ) -> Result<Bytes, AllocError> {
+        let mut bytes = Bytes::new(heap, b"ISP1")?;
+        bytes.number(zone_net)?;
+        bytes.byte(u8::from(avoided.is_some()))?;
+        if let Some(cents) = avoided {
+            bytes.number(cents)?;
         }
-        out.push((rest % 128 + 128) as u8)?;
-        rest /= 128;
+        Ok(bytes)
     }
-    Ok(())
-}
 
-/// The opening, the zone net and the avoided value.
-pub(crate) fn head(
-    heap: Global,
-    zone_net: i32,
-    avoided: Option<i32>,
-) -> Result<Vec<u8>, AllocError> {
-    let mut out = Vec::from_slice(heap, b"ISP1")?;
-    put_number(&mut out, zone_net)?;
-    match avoided {
-        Some(cents) => {
-            out.push(1)?;
-            put_number(&mut out, cents)?;
+    /// A front and so many zero bytes.
+    pub(crate) fn zeros(heap: Global, front: &[u8], count: usize) -> Result<Bytes, AllocError> {
+        let mut bytes = Bytes::new(heap, front)?;
+        bytes.sheet.resize(front.len().saturating_add(count), 0)?;
+        Ok(bytes)
+    }
+
+    pub(crate) fn byte(&mut self, byte: u8) -> Result<(), AllocError> {
+        self.sheet.push(byte)?;
+        Ok(())
+    }
+
+    pub(crate) fn number(&mut self, n: i32) -> Result<(), AllocError> {
+        let double = 2 * i64::from(n).unsigned_abs();
+        let mut rest = if n < 0 { double - 1 } else { double };
+        for _ in 0..5 {
+            if rest < 128 {
+                return self.byte((rest % 128) as u8);
+            }
+            self.byte((rest % 128 + 128) as u8)?;
+            rest /= 128;
         }
-        None => out.push(0)?,
+        Ok(())
     }
-    Ok(out)
-}
 
-/// So many slots with one demand and no price.
-pub(crate) fn idle(out: &mut Vec<u8>, slots: usize) -> Result<(), AllocError> {
-    for _ in 0..slots {
-        out.push(1)?;
-        out.push(0)?;
+    /// So many slots with no demand and no price.
+    pub(crate) fn idle(&mut self, slots: usize) -> Result<(), AllocError> {
+        for _ in 0..slots {
+            self.byte(1)?;
+            self.number(0)?;
+        }
+        Ok(())
     }
-    Ok(())
-}
 
-/// So many slots with one demand and one up price.
-pub(crate) fn up(
-    out: &mut Vec<u8>,
-    slots: usize,
-    demand: i32,
-    cents: i32,
-) -> Result<(), AllocError> {
-    for _ in 0..slots {
-        out.push(2)?;
-        put_number(out, demand)?;
-        put_number(out, cents)?;
+    /// So many slots with one demand and one price.
+    pub(crate) fn priced(
+        &mut self,
+        formed: Formed,
+        slots: usize,
+        demand: i32,
+        cents: i32,
+    ) -> Result<(), AllocError> {
+        for _ in 0..slots {
+            self.byte(formed as u8)?;
+            self.number(demand)?;
+            self.number(cents)?;
+        }
+        Ok(())
     }
-    Ok(())
-}
 
-/// So many slots with one demand and one down price.
-pub(crate) fn down(
-    out: &mut Vec<u8>,
-    slots: usize,
-    demand: i32,
-    cents: i32,
-) -> Result<(), AllocError> {
-    for _ in 0..slots {
-        out.push(3)?;
-        put_number(out, demand)?;
-        put_number(out, cents)?;
+    /// What the program prints of the sheet.
+    pub(crate) fn printed(&self) -> Result<String, AllocError> {
+        let lines = lines_of(self.sheet.as_slice());
+        format!(in *self.sheet.allocator(); "{lines}")
     }
-    Ok(())
-}
-
-/// What the program prints of the sheet.
-pub(crate) fn printed(heap: Global, sheet: &Vec<u8>) -> Result<String, AllocError> {
-    let lines = lines_of(sheet.as_slice());
-    format!(in heap; "{lines}")
 }

@@ -1,74 +1,82 @@
 // Both calculations of one sheet, side by side.
-use crate::plain::{DEMAND, Fault, PRICE, Plain, Quarter, UNREPORTED, ZONE_NET, netted};
+use crate::fault::{Fault, Numbered};
+use crate::outcome::Outcome;
+use crate::plain::{DEMAND, PRICE, Plain, Quarter, UNREPORTED, ZONE_NET};
 use crate::reader::{Told, read};
-use crate::rules::{Answer, quote_of};
+use crate::rules::{Quote, RULES, Rules, quote_of};
 use crate::writer::sheet_of;
 use lines::quarter_lines::lines_of;
+use pricing::fault::QuoteFault;
 use pricing::quote::quote_source;
-use pricing::rulebook::Rulebook;
 use pricing::rulebooks::Finnish;
 use sheet::sheet::Sheet;
 use source::netting_fill::NettingFill;
 use source::table::{Row, Table};
 use std::alloc::{AllocError, Global};
+use std::fmt;
 use units::price::Price;
 use units::quantity::Quantity;
 use units::zone_net::ZoneNet;
 use writing::sheet_writer::sheet_vec;
 
-/// The printed lines of both, whether all else agrees, and what became of the sheet: the number of its refusal, or
-/// under code 1 that of the quote's refusal, 9 for up, 10 for down or 11 for avoided.
+/// The printed lines of both, whether all else agrees, and what became of the sheet.
 #[derive(Drop)]
 pub(crate) struct Both {
     pub rival: String,
     pub library: String,
     pub told_alike: bool,
-    pub outcome: u16,
+    pub outcome: Outcome,
 }
 
 impl Both {
     pub(crate) fn agree(&self) -> bool {
-        self.told_alike && self.rival.as_str() == self.library.as_str()
+        self.told_alike && self.rival == self.library
+    }
+}
+
+impl From<QuoteFault> for Numbered {
+    fn from(fault: QuoteFault) -> Numbered {
+        Numbered {
+            number: fault.number(),
+            place: fault.place(),
+        }
+    }
+}
+
+// What is printed of one rulebook.
+#[derive(Clone, Copy)]
+struct Line {
+    rules: Rules,
+    answer: Result<Quote, Fault>,
+}
+
+impl fmt::Display for Line {
+    fn fmt<W: fmt::Write>(&self, f: &mut fmt::Formatter<W>) -> fmt::Result {
+        let code = self.rules.code();
+        match self.answer {
+            Ok(quote) => write!(f, "{code} {quote}"),
+            Err(fault) => write!(f, "{code} ! {}", fault.refusal.number()),
+        }
     }
 }
 
 fn rival_lines(heap: Global, told: &Told) -> Result<String, AllocError> {
-    if let Some(fault) = told.fault {
-        let number = fault.number;
-        let place = fault.place;
-        return format!(in heap; "! {number} {place}\n");
+    if let Err(fault) = told.check {
+        return format!(in heap; "! {} {}\n", fault.refusal.number(), fault.place);
     }
     let mut text = String::new(heap);
-    for code in 1..6u16 {
-        let answer = quote_of(&told.quarter, code);
-        let line = format!(in heap; "{code} {answer}\n")?;
-        text.push_str(line.as_str())?;
+    for rules in RULES.iter().copied() {
+        let answer = quote_of(&told.quarter, rules);
+        writeln!(text, "{}", Line { rules, answer })?;
     }
     Ok(text)
 }
 
-fn outcome_of(told: &Told) -> u16 {
-    if let Some(fault) = told.fault {
-        return fault.number;
-    }
-    match quote_of(&told.quarter, 1) {
-        Answer::Refused(fault) => fault.number,
-        Answer::Up(_) => 9,
-        Answer::Down(_) => 10,
-        Answer::Avoided(_) => 11,
-    }
-}
-
 // The refusal of a quote under code 5 with its place, which no line prints.
 fn same_place(sheet: &Sheet<'_>, quarter: &Quarter) -> bool {
-    match (quote_source(sheet, &Finnish), quote_of(quarter, 5)) {
-        (Err(fault), Answer::Refused(own)) => {
-            own.number == fault.number() && own.place == fault.place()
-        }
-        (Err(_), _) => false,
-        (Ok(_), Answer::Refused(_)) => false,
-        (Ok(_), _) => true,
-    }
+    let own = quote_of(quarter, Rules::Finnish).err();
+    let fault = quote_source(sheet, &Finnish).err();
+    own.map(Numbered::from) == fault.map(Numbered::from)
 }
 
 // Whether what a sheet tells is the same, as it is and under the netting fill: both are written and compared.
@@ -78,10 +86,10 @@ fn same_told(heap: Global, bytes: &[u8], read: &Told) -> Result<bool, AllocError
     let sheet = Sheet::read(bytes);
     let told = sheet_vec(heap, &sheet)?;
     let plain = sheet_of(heap, quarter)?;
-    let kept = same_place(&sheet, quarter) && (read.fault.is_some() || plain.as_slice() == bytes);
+    let kept = same_place(&sheet, quarter) && (read.check.is_err() || plain.as_slice() == bytes);
     let filled = sheet_vec(heap, &NettingFill { below: sheet })?;
-    let netted = sheet_of(heap, &netted(*quarter))?;
-    Ok(kept && told.as_slice() == plain.as_slice() && filled.as_slice() == netted.as_slice())
+    let netted = sheet_of(heap, &quarter.netted())?;
+    Ok(kept && told == plain && filled == netted)
 }
 
 /// Both calculations of a sheet.
@@ -92,68 +100,52 @@ pub(crate) fn compare_sheet(heap: Global, bytes: &[u8]) -> Result<Both, AllocErr
         rival: rival_lines(heap, &told)?,
         library: format!(in heap; "{lines}")?,
         told_alike: same_told(heap, bytes, &told)?,
-        outcome: outcome_of(&told),
+        outcome: Outcome::of(&told),
     })
 }
 
-fn beyond(number: Option<i64>, bound: i64) -> bool {
-    match number {
-        Some(number) => number > bound || number < bound.wrapping_neg(),
-        None => false,
-    }
+fn is_within(number: i64, bound: i64) -> bool {
+    number.unsigned_abs() <= bound.unsigned_abs()
 }
 
-// A slot with a number out of bounds is unreported in a table.
-fn bounded(slot: Plain) -> Plain {
-    if beyond(slot.kw, DEMAND) || beyond(slot.up, PRICE) || beyond(slot.down, PRICE) {
-        UNREPORTED
-    } else {
-        slot
-    }
+fn is_bounded(slot: &Plain) -> bool {
+    slot.kw.is_none_or(|kw| is_within(kw, DEMAND))
+        && slot.up.is_none_or(|cents| is_within(cents, PRICE))
+        && slot.down.is_none_or(|cents| is_within(cents, PRICE))
 }
 
 // A table has no form for an unreported row but a number out of bounds.
-fn rows_of(quarter: &Quarter) -> [Row; 228] {
-    let mut rows = [Row {
-        demand: 0,
-        up: None,
-        down: None,
-    }; 228];
-    for (place, row) in rows.iter_mut().enumerate() {
-        let slot = quarter.slots.get(place).copied().unwrap_or(UNREPORTED);
-        *row = Row {
+impl From<Plain> for Row {
+    fn from(slot: Plain) -> Row {
+        Row {
             demand: slot.kw.unwrap_or(i64::MIN),
             up: slot.up,
             down: slot.down,
-        };
+        }
     }
-    rows
 }
 
 /// Whether a table of the quarter's numbers, written, is the sheet of its slots that are in bounds.
 pub(crate) fn same_table(heap: Global, quarter: &Quarter) -> Result<bool, AllocError> {
-    let rows = rows_of(quarter);
-    let mut own = *quarter;
-    for slot in own.slots.iter_mut() {
-        *slot = bounded(*slot);
-    }
-    let zone_net = ZoneNet::new(quarter.zone_net).unwrap_or(ZoneNet::zero());
-    if beyond(Some(quarter.zone_net), ZONE_NET) {
-        own.zone_net = 0;
-    }
-    if beyond(quarter.avoided, PRICE) {
-        own.avoided = None;
-    }
-    let avoided = match quarter.avoided {
-        Some(cents) => Price::new(cents).ok(),
-        None => None,
-    };
+    let rows = quarter.slots.map(Row::from);
     let table = Table {
         rows: &rows,
-        zone_net,
-        avoided,
+        zone_net: ZoneNet::new(quarter.zone_net).unwrap_or(ZoneNet::zero()),
+        avoided: quarter.avoided.and_then(|cents| Price::new(cents).ok()),
+    };
+    // A slot with a number out of bounds is unreported in a table.
+    let own = Quarter {
+        slots: quarter
+            .slots
+            .map(|slot| if is_bounded(&slot) { slot } else { UNREPORTED }),
+        zone_net: if is_within(quarter.zone_net, ZONE_NET) {
+            quarter.zone_net
+        } else {
+            0
+        },
+        avoided: quarter.avoided.filter(|cents| is_within(*cents, PRICE)),
     };
     let written = sheet_vec(heap, &table)?;
     let plain = sheet_of(heap, &own)?;
-    Ok(written.as_slice() == plain.as_slice())
+    Ok(written == plain)
 }

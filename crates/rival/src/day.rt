@@ -1,131 +1,151 @@
-// Calls of the area's book and of the ledger, side by side.
+// The area's book and the ledger of one day, called side by side.
+use crate::fault::{Fault, Numbered};
 use crate::generator::Dice;
-use crate::ledger::Ledger;
-use crate::plain::{Fault, PRICE};
+use crate::ledger::{Ledger, PARTIES, PERIODS};
+use crate::plain::{PRICE, SLOTS};
 use metering::meter_values::MeterValues;
-use pricing::rulebook::Rulebook;
 use pricing::rulebooks::Finnish;
 use settlement::book::Book;
 use settlement::fault::BookFault;
 use settlement::quarter::Quarter;
 use source::table::{Row, Table};
+use std::alloc::{AllocError, Global};
 use units::price::Price;
 use units::quantity::Quantity;
 use units::zone_net::ZoneNet;
 
-/// The answers to one call: cents or kWh, or a refusal.
+/// The answers to one call: cents or kWh, none for a quarter that stays blank, or a refusal.
 #[derive(Clone, Copy)]
 pub(crate) struct Replies {
-    pub rival: Result<i64, Fault>,
-    pub library: Result<i64, Fault>,
+    pub rival: Result<Option<i64>, Numbered>,
+    pub library: Result<Option<i64>, Numbered>,
+}
+
+#[derive(Drop)]
+pub(crate) struct Day {
+    book: Book,
+    ledger: Ledger,
+}
+
+/// The values of a party in a quarter, in kWh.
+#[derive(Clone, Copy)]
+pub(crate) struct Metered {
+    pub schedules: [i64; 2],
+    pub allocated: i64,
+    pub adjustment: i64,
+}
+
+impl From<BookFault> for Numbered {
+    fn from(fault: BookFault) -> Numbered {
+        Numbered {
+            number: fault.number(),
+            place: fault.place(),
+        }
+    }
 }
 
 impl Replies {
+    fn new(rival: Result<i64, Fault>, library: Result<Option<i64>, BookFault>) -> Replies {
+        Replies {
+            rival: rival.map(Some).map_err(Numbered::from),
+            library: library.map_err(Numbered::from),
+        }
+    }
+
     pub(crate) fn agree(&self) -> bool {
-        match (self.rival, self.library) {
-            (Ok(a), Ok(b)) => a == b,
-            (Err(a), Err(b)) => a == b,
-            _ => false,
+        self.rival == self.library
+    }
+}
+
+fn cents_of(quarter: Quarter) -> Option<i64> {
+    quarter.quote().map(|quote| quote.price.cents())
+}
+
+impl Metered {
+    fn values(&self) -> MeterValues<'_> {
+        MeterValues {
+            schedules: &self.schedules,
+            allocated: self.allocated,
+            adjustment: self.adjustment,
         }
     }
-}
 
-fn refusal(fault: BookFault) -> Result<i64, Fault> {
-    Err(Fault {
-        number: fault.number(),
-        place: fault.place(),
-    })
-}
-
-fn filed(answer: Result<Quarter, BookFault>) -> Result<i64, Fault> {
-    match answer {
-        Ok(quarter) => match quarter.quote() {
-            Some(quote) => Ok(quote.price.cents()),
-            None => Ok(i64::MIN),
-        },
-        Err(fault) => refusal(fault),
+    fn imbalance(&self) -> i64 {
+        let position = self
+            .schedules
+            .iter()
+            .fold(0i64, |sum, kwh| sum.saturating_add(*kwh));
+        let rest = self.allocated.saturating_sub(position);
+        rest.saturating_sub(self.adjustment)
     }
 }
 
-/// Prices a quarter without demand, whose price is then the avoided value.
-pub(crate) fn price(book: &mut Book, ledger: &mut Ledger, period: usize, cents: i64) -> Replies {
-    let rows = [Row {
-        demand: 0,
-        up: None,
-        down: None,
-    }; 228];
-    let table = Table {
-        rows: &rows,
-        zone_net: ZoneNet::zero(),
-        avoided: Price::new(cents).ok(),
-    };
-    Replies {
-        rival: ledger.price(period, cents),
-        library: filed(book.price(period, &table, &Finnish)),
+impl Day {
+    /// Both counts are in range, so no fault but want of memory comes.
+    pub(crate) fn start(heap: Global) -> Result<Day, AllocError> {
+        Ok(Day {
+            book: Book::start(heap, PERIODS, PARTIES).map_err(|_| AllocError)?,
+            ledger: Ledger::new(),
+        })
     }
-}
 
-/// Meters two schedules, an allocated volume and an adjustment.
-pub(crate) fn meter(
-    book: &mut Book,
-    ledger: &mut Ledger,
-    period: usize,
-    party: usize,
-    values: [i64; 4],
-) -> Replies {
-    let [one, two, allocated, adjustment] = values;
-    let schedules = [one, two];
-    let metered = MeterValues {
-        schedules: &schedules,
-        allocated,
-        adjustment,
-    };
-    let position = one.saturating_add(two);
-    let kwh = allocated
-        .saturating_sub(position)
-        .saturating_sub(adjustment);
-    Replies {
-        rival: ledger.meter(period, party, kwh),
-        library: match book.meter(period, party, &metered) {
-            Ok(imbalance) => Ok(imbalance.kwh()),
-            Err(fault) => refusal(fault),
-        },
+    /// Prices a quarter without demand, whose price is then the avoided value.
+    pub(crate) fn price(&mut self, period: usize, cents: i64) -> Replies {
+        let rows = [Row {
+            demand: 0,
+            up: None,
+            down: None,
+        }; SLOTS];
+        let table = Table {
+            rows: &rows,
+            zone_net: ZoneNet::zero(),
+            avoided: Price::new(cents).ok(),
+        };
+        Replies::new(
+            self.ledger.price(period, cents),
+            self.book.price(period, &table, &Finnish).map(cents_of),
+        )
     }
-}
 
-/// Settles a party.
-pub(crate) fn settle(book: &mut Book, ledger: &mut Ledger, party: usize) -> Replies {
-    Replies {
-        rival: ledger.settle(party),
-        library: match book.settle(party) {
-            Ok(payment) => Ok(payment.cents),
-            Err(fault) => refusal(fault),
-        },
+    pub(crate) fn meter(&mut self, period: usize, party: usize, metered: &Metered) -> Replies {
+        let answer = self.book.meter(period, party, &metered.values());
+        Replies::new(
+            self.ledger.meter(period, party, metered.imbalance()),
+            answer.map(|imbalance| Some(imbalance.kwh())),
+        )
     }
-}
 
-/// A call from the sequence; the last numbers of period and party are out of range.
-pub(crate) fn any_call(dice: &mut Dice, book: &mut Book, ledger: &mut Ledger) -> Replies {
-    let period = dice.roll(101) as usize;
-    let party = dice.roll(33) as usize;
-    match dice.roll(40) {
-        0 => Replies {
-            rival: ledger.close(period),
-            library: filed(book.close(period)),
-        },
-        1..=9 => {
-            let cents = dice.within(PRICE);
-            price(book, ledger, period, cents)
+    pub(crate) fn settle(&mut self, party: usize) -> Replies {
+        let answer = self.book.settle(party);
+        Replies::new(
+            self.ledger.settle(party),
+            answer.map(|payment| Some(payment.cents)),
+        )
+    }
+
+    fn close(&mut self, period: usize) -> Replies {
+        Replies::new(
+            self.ledger.close(period),
+            self.book.close(period).map(cents_of),
+        )
+    }
+
+    /// A call from the sequence; the last numbers of period and party are out of range.
+    pub(crate) fn any_call(&mut self, dice: &mut Dice) -> Replies {
+        let period = dice.roll(101) as usize;
+        let party = dice.roll(33) as usize;
+        match dice.roll(40) {
+            0 => self.close(period),
+            1..=9 => self.price(period, dice.within(PRICE)),
+            10..=29 => {
+                let metered = Metered {
+                    schedules: [dice.within(2_500_000), dice.within(2_500_000)],
+                    allocated: dice.within(5_000_000),
+                    adjustment: dice.within(5_000_000),
+                };
+                self.meter(period, party, &metered)
+            }
+            _ => self.settle(party),
         }
-        10..=29 => {
-            let values = [
-                dice.within(2_500_000),
-                dice.within(2_500_000),
-                dice.within(5_000_000),
-                dice.within(5_000_000),
-            ];
-            meter(book, ledger, period, party, values)
-        }
-        _ => settle(book, ledger, party),
     }
 }

@@ -1,35 +1,52 @@
-// Exact fractions in i128. A price is at most 9,999,900 cents and all volumes of a quarter at most 9,000,000,000, so a
+// Exact fractions. A price is at most 9,999,900 cents and all volumes of a quarter at most 9,000,000,000, so a
 // numerator stays below 10^17 and a cross product below 10^27: nothing here comes near the limit where it saturates.
+ghost use Rattle.std.specs.Prelude.{◌≤◌};
 
-/// `n / d`; where `d` is 0 there is no value.
+/// `n / d`.
 #[derive(Clone, Copy)]
 pub(crate) struct Fraction {
     pub n: i128,
-    pub d: i128,
+    pub d: u64,
+    ghost divides: { 1 ≤ d },
 }
 
-pub(crate) const NOTHING: Fraction = Fraction { n: 0, d: 0 };
+impl Fraction {
+    /// Nothing where `d` is 0.
+    pub(crate) fn new(n: i128, d: u64) -> Option<Fraction> {
+        if d == 0 {
+            None
+        } else {
+            Some(Fraction { n, d })
+        }
+    }
 
-/// The higher of two, by cross multiplication; one that has no value is passed over.
-pub(crate) fn higher(a: Fraction, b: Fraction) -> Fraction {
-    if a.d == 0 || (b.d != 0 && a.n.saturating_mul(b.d) < b.n.saturating_mul(a.d)) {
-        b
-    } else {
-        a
+    /// The higher of two, by cross multiplication.
+    fn higher(self, other: Fraction) -> Fraction {
+        let own = self.n.saturating_mul(i128::from(other.d));
+        if own < other.n.saturating_mul(i128::from(self.d)) {
+            other
+        } else {
+            self
+        }
+    }
+
+    /// The nearest whole number: half is added to the size, which is then cut, so a half goes away from zero.
+    pub(crate) fn nearest(self) -> i64 {
+        let d = u128::from(self.d);
+        let size = self.n.unsigned_abs().saturating_add(d / 2) / d;
+        let cents = i64::try_from(size).unwrap_or(0);
+        if self.n < 0 {
+            cents.wrapping_neg()
+        } else {
+            cents
+        }
     }
 }
 
-/// The nearest whole number: half is added to the size, which is then cut, so a half goes away from zero.
-pub(crate) fn nearest(fraction: Fraction) -> i64 {
-    let d = fraction.d.unsigned_abs();
-    if d == 0 {
-        return 0;
-    }
-    let size = (fraction.n.unsigned_abs().saturating_add(d / 2)) / d;
-    let cents = i64::try_from(size).unwrap_or(0);
-    if fraction.n < 0 {
-        cents.wrapping_neg()
-    } else {
-        cents
+/// The higher of those that there are.
+pub(crate) fn higher(a: Option<Fraction>, b: Option<Fraction>) -> Option<Fraction> {
+    match (a, b) {
+        (Some(a), Some(b)) => Some(a.higher(b)),
+        _ => a.or(b),
     }
 }

@@ -1,5 +1,5 @@
 // Quarters from a fixed sequence of numbers, and damages to their sheets.
-use crate::plain::{CYCLES, DEMAND, IDLE, PRICE, Plain, Quarter, UNREPORTED, ZONE_NET};
+use crate::plain::{CYCLES, DEMAND, IDLE, PRICE, Plain, Quarter, SLOTS, UNREPORTED, ZONE_NET};
 use std::alloc::{AllocError, Global};
 
 /// How the numbers of a quarter are drawn.
@@ -19,6 +19,27 @@ pub(crate) enum Kind {
     Gaps,
     /// As `Edge`, with a number just out of bounds here and there.
     Beyond,
+}
+
+/// The kinds in the order of the quarters.
+pub(crate) static KINDS: [Kind; 7] = [
+    Kind::Wide,
+    Kind::Small,
+    Kind::Sparse,
+    Kind::Edge,
+    Kind::Level,
+    Kind::Gaps,
+    Kind::Beyond,
+];
+
+// One damage to a sheet; a change is turned bits.
+#[derive(Clone, Copy)]
+enum Damage {
+    Cut,
+    Changed(u8),
+    TakenOut,
+    PutIn(u8),
+    Added(u8),
 }
 
 /// A linear congruential sequence modulo 2^64.
@@ -76,30 +97,19 @@ impl Dice {
     }
 
     fn price(&mut self, kind: Kind, sides: u64) -> Option<i64> {
-        if self.roll(sides) == 0 {
-            None
-        } else {
-            Some(self.number(kind, PRICE))
-        }
+        (self.roll(sides) != 0).then(|| self.number(kind, PRICE))
     }
 
     // In a manual slot half of the demands are 0, so that formed prices decide under code 5.
     fn slot(&mut self, kind: Kind, place: usize) -> Plain {
-        let absent = match kind {
-            Kind::Gaps if self.roll(300) == 0 => Some(UNREPORTED),
-            Kind::Sparse if self.roll(16) != 0 => Some(IDLE),
-            _ => None,
-        };
-        if let Some(slot) = absent {
-            return slot;
+        match kind {
+            Kind::Gaps if self.roll(300) == 0 => return UNREPORTED,
+            Kind::Sparse if self.roll(16) != 0 => return IDLE,
+            _ => {}
         }
         let idle = place >= CYCLES && self.roll(2) == 0;
         Plain {
-            kw: if idle {
-                Some(0)
-            } else {
-                Some(self.number(kind, DEMAND))
-            },
+            kw: Some(if idle { 0 } else { self.number(kind, DEMAND) }),
             up: self.price(kind, 3),
             down: self.price(kind, 3),
         }
@@ -107,10 +117,9 @@ impl Dice {
 
     /// A quarter of one kind.
     pub(crate) fn quarter(&mut self, kind: Kind) -> Quarter {
-        let mut slots = [self.slot(kind, 0); 228];
-        let level = matches!(kind, Kind::Level);
-        for (place, slot) in slots.iter_mut().enumerate() {
-            if !level {
+        let mut slots = [self.slot(kind, 0); SLOTS];
+        if !matches!(kind, Kind::Level) {
+            for (place, slot) in slots.iter_mut().enumerate() {
                 *slot = self.slot(kind, place);
             }
         }
@@ -129,43 +138,39 @@ impl Dice {
 
     /// A sheet with one damage: cut, a byte changed, its top bit turned, taken out, put in, or added at the end.
     pub(crate) fn damaged(&mut self, heap: Global, sheet: &[u8]) -> Result<Vec<u8>, AllocError> {
-        let damage = self.roll(6);
-        let at = self.place(sheet.len());
+        let number = self.roll(6);
+        let place = self.place(sheet.len());
         let noise = (self.roll(255) % 255) as u8 + 1;
-        let mut out = Vec::new(heap);
-        for (place, byte) in sheet.iter().enumerate() {
-            let hit = place == at;
-            if hit && damage == 0 {
-                return Ok(out);
-            }
-            if hit && damage == 4 {
-                out.push(noise)?;
-            }
-            let change = match damage {
-                1 if hit => noise,
-                2 if hit => 128,
-                _ => 0,
-            };
-            if !hit || damage != 3 {
-                out.push(*byte ^ change)?;
-            }
-        }
-        if damage == 5 {
-            out.push(noise)?;
-        }
+        let damage = match number {
+            0 => Damage::Cut,
+            1 => Damage::Changed(noise),
+            2 => Damage::Changed(128),
+            3 => Damage::TakenOut,
+            4 => Damage::PutIn(noise),
+            _ => Damage::Added(noise),
+        };
+        let mut out = Vec::from_slice(heap, sheet)?;
+        damage.apply(&mut out, place)?;
         Ok(out)
     }
 }
 
-/// The kind of the quarter with this number.
-pub(crate) fn kind_of(number: u64) -> Kind {
-    match number % 7 {
-        0 => Kind::Wide,
-        1 => Kind::Small,
-        2 => Kind::Sparse,
-        3 => Kind::Edge,
-        4 => Kind::Level,
-        5 => Kind::Gaps,
-        _ => Kind::Beyond,
+impl Damage {
+    fn apply(self, sheet: &mut Vec<u8>, place: usize) -> Result<(), AllocError> {
+        match self {
+            Damage::Cut => sheet.truncate(place),
+            Damage::Changed(change) => {
+                if let Some(byte) = sheet.get_mut(place) {
+                    *byte ^= change;
+                }
+            }
+            Damage::TakenOut if place < sheet.len() => {
+                sheet.remove(place);
+            }
+            Damage::PutIn(noise) if place < sheet.len() => sheet.insert(place, noise)?,
+            Damage::TakenOut | Damage::PutIn(_) => {}
+            Damage::Added(noise) => sheet.push(noise)?,
+        }
+        Ok(())
     }
 }

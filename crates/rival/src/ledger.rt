@@ -1,102 +1,113 @@
 // Payments worked out over plain arrays, for a day of 100 quarters and 32 parties.
-use crate::fraction::{Fraction, nearest};
-use crate::plain::Fault;
+use crate::fault::{Fault, Refusal};
+use crate::fraction::Fraction;
 
 pub(crate) const PERIODS: usize = 100;
 
 pub(crate) const PARTIES: usize = 32;
 
-/// Volumes stand party by party: that of a period at `party * 100 + period`.
-#[derive(Drop)]
-pub(crate) struct Ledger {
-    volumes: [i64; 3_200],
-    prices: [Option<i64>; 100],
-    closed: [bool; 100],
-    paid: [i64; 32],
+/// A quarter, with the cents of its price.
+#[derive(Clone, Copy)]
+enum Quarter {
+    Blank,
+    Priced(i64),
+    Closed(i64),
 }
 
-fn refused(number: u16, place: usize) -> Result<i64, Fault> {
-    Err(Fault { number, place })
+/// The kWh of a party in each quarter, and the cents that it was paid.
+#[derive(Clone, Copy)]
+struct Party {
+    volumes: [i64; PERIODS],
+    paid: i64,
+}
+
+#[derive(Drop)]
+pub(crate) struct Ledger {
+    quarters: [Quarter; PERIODS],
+    parties: [Party; PARTIES],
+}
+
+impl Quarter {
+    fn cents(self) -> i64 {
+        match self {
+            Quarter::Blank => 0,
+            Quarter::Priced(cents) | Quarter::Closed(cents) => cents,
+        }
+    }
+}
+
+impl Party {
+    // What the volumes are worth at the standing prices, in thousandths of a cent.
+    fn worth(&self, quarters: &[Quarter; PERIODS]) -> i128 {
+        let both = quarters.iter().zip(self.volumes.iter());
+        both.fold(0i128, |sum, (quarter, kwh)| {
+            let product = i128::from(quarter.cents()).saturating_mul(i128::from(*kwh));
+            sum.saturating_add(product)
+        })
+    }
 }
 
 impl Ledger {
     pub(crate) fn new() -> Ledger {
         Ledger {
-            volumes: [0; 3_200],
-            prices: [None; 100],
-            closed: [false; 100],
-            paid: [0; 32],
+            quarters: [Quarter::Blank; PERIODS],
+            parties: [Party {
+                volumes: [0; PERIODS],
+                paid: 0,
+            }; PARTIES],
+        }
+    }
+
+    // A quarter that is not closed.
+    fn open(&mut self, period: usize) -> Result<&mut Quarter, Fault> {
+        match self.quarters.get_mut(period) {
+            None => Err(Refusal::PeriodOutOfRange.at(period)),
+            Some(Quarter::Closed(_)) => Err(Refusal::QuarterClosed.at(period)),
+            Some(quarter) => Ok(quarter),
         }
     }
 
     /// Files a price that is in bounds.
     pub(crate) fn price(&mut self, period: usize, cents: i64) -> Result<i64, Fault> {
-        if period >= PERIODS {
-            return refused(9, period);
-        }
-        if self.closed[period] {
-            return refused(11, period);
-        }
-        self.prices[period] = Some(cents);
+        *self.open(period)? = Quarter::Priced(cents);
         Ok(cents)
     }
 
-    /// Notes a volume.
+    /// Notes a volume. A party out of range is refused before a closed quarter.
     pub(crate) fn meter(&mut self, period: usize, party: usize, kwh: i64) -> Result<i64, Fault> {
-        if period >= PERIODS {
-            return refused(9, period);
+        let beyond = Refusal::PeriodOutOfRange.at(period);
+        let quarter = self.quarters.get(period).ok_or(beyond)?;
+        let beyond = Refusal::PartyOutOfRange.at(party);
+        let found = self.parties.get_mut(party).ok_or(beyond)?;
+        if matches!(quarter, Quarter::Closed(_)) {
+            return Err(Refusal::QuarterClosed.at(period));
         }
-        if party >= PARTIES {
-            return refused(10, party);
-        }
-        if self.closed[period] {
-            return refused(11, period);
-        }
-        self.volumes[party * 100 + period] = kwh;
+        found.volumes[period] = kwh;
         Ok(kwh)
     }
 
     /// Closes a priced quarter, and answers its price.
     pub(crate) fn close(&mut self, period: usize) -> Result<i64, Fault> {
-        if period >= PERIODS {
-            return refused(9, period);
-        }
-        if self.closed[period] {
-            return refused(11, period);
-        }
-        match self.prices[period] {
-            None => refused(12, period),
-            Some(cents) => {
-                self.closed[period] = true;
-                Ok(cents)
-            }
-        }
-    }
-
-    // What a party's volumes are worth at the standing prices, in thousandths of a cent.
-    fn worth(&self, party: usize) -> i128 {
-        let mut sum: i128 = 0;
-        let first = party.saturating_mul(100);
-        for (period, price) in self.prices.iter().enumerate() {
-            let cents = price.unwrap_or(0) as i128;
-            let volume = self.volumes.get(first.saturating_add(period));
-            let kwh = volume.copied().unwrap_or(0) as i128;
-            sum = sum.saturating_add(cents.saturating_mul(kwh));
-        }
-        sum
+        let quarter = self.open(period)?;
+        let Quarter::Priced(cents) = *quarter else {
+            return Err(Refusal::QuarterBlank.at(period));
+        };
+        *quarter = Quarter::Closed(cents);
+        Ok(cents)
     }
 
     /// Pays what is due over the whole day, less what was paid before.
     pub(crate) fn settle(&mut self, party: usize) -> Result<i64, Fault> {
-        if party >= PARTIES {
-            return refused(10, party);
-        }
-        let due = nearest(Fraction {
-            n: self.worth(party),
+        let Some(found) = self.parties.get_mut(party) else {
+            return Err(Refusal::PartyOutOfRange.at(party));
+        };
+        let worth = Fraction {
+            n: found.worth(&self.quarters),
             d: 1_000,
-        });
-        let before = self.paid[party];
-        self.paid[party] = due;
+        };
+        let due = worth.nearest();
+        let before = found.paid;
+        found.paid = due;
         Ok(due.saturating_sub(before))
     }
 }

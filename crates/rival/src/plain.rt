@@ -34,39 +34,35 @@ pub(crate) const IDLE: Plain = Plain {
 
 #[derive(Clone, Copy)]
 pub(crate) struct Quarter {
-    pub slots: [Plain; 228],
+    pub slots: [Plain; SLOTS],
     pub zone_net: i64,
     pub avoided: Option<i64>,
 }
 
-/// A refusal: its number and its place.
-#[derive(Clone, Copy, PartialEq, Eq)]
-pub(crate) struct Fault {
-    pub number: u16,
-    pub place: usize,
-}
-
-// A cycle with demand in a direction and no price formed in it takes the avoided value.
-fn filled(slot: Plain, avoided: Option<i64>) -> Plain {
-    let kw = slot.kw.unwrap_or(0);
-    Plain {
-        kw: slot.kw,
-        up: if kw > 0 { slot.up.or(avoided) } else { slot.up },
-        down: if kw < 0 {
-            slot.down.or(avoided)
-        } else {
-            slot.down
-        },
-    }
-}
-
-/// The quarter under the netting fill.
-pub(crate) fn netted(mut quarter: Quarter) -> Quarter {
-    let avoided = quarter.avoided;
-    for (place, slot) in quarter.slots.iter_mut().enumerate() {
-        if place < CYCLES {
-            *slot = filled(*slot, avoided);
+impl Plain {
+    // A cycle with demand in a direction and no price formed in it takes the avoided value.
+    fn filled(self, avoided: Option<i64>) -> Plain {
+        match self.kw {
+            Some(1..) => Plain {
+                up: self.up.or(avoided),
+                ..self
+            },
+            Some(..0) => Plain {
+                down: self.down.or(avoided),
+                ..self
+            },
+            _ => self,
         }
     }
-    quarter
+}
+
+impl Quarter {
+    /// The quarter under the netting fill.
+    pub(crate) fn netted(mut self) -> Quarter {
+        let avoided = self.avoided;
+        for slot in self.slots.iter_mut().take(CYCLES) {
+            *slot = slot.filled(avoided);
+        }
+        self
+    }
 }

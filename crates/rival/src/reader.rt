@@ -1,18 +1,18 @@
-// A reader of packed sheets that notes the first fault and then stands still.
-use crate::plain::{DEMAND, Fault, PRICE, Plain, Quarter, UNREPORTED, ZONE_NET};
+// A reader of packed sheets.
+use crate::fault::{Fault, Refusal};
+use crate::plain::{DEMAND, IDLE, PRICE, Plain, Quarter, SLOTS, UNREPORTED, ZONE_NET};
 
 #[derive(Drop)]
 struct Reader<'a> {
     bytes: &'a [u8],
     at: usize,
-    fault: Option<Fault>,
 }
 
-/// What a sheet tells, and its first fault.
+/// What a sheet tells up to its first fault.
 #[derive(Clone, Copy)]
 pub(crate) struct Told {
     pub quarter: Quarter,
-    pub fault: Option<Fault>,
+    pub check: Result<(), Fault>,
 }
 
 // 2n for n from 0 on, -2n - 1 below.
@@ -26,132 +26,105 @@ fn signed(stored: u64) -> i64 {
 }
 
 impl Reader<'_> {
-    // Only the first fault is kept.
-    fn refuse(&mut self, number: u16, place: usize) {
-        if self.fault.is_none() {
-            self.fault = Some(Fault { number, place });
-        }
+    fn byte(&mut self) -> Result<u8, Fault> {
+        let end = Refusal::Ends.at(self.bytes.len());
+        let byte = self.bytes.get(self.at).copied().ok_or(end)?;
+        self.at = self.at.saturating_add(1);
+        Ok(byte)
     }
 
-    // The next byte; after a fault it is 0.
-    fn byte(&mut self) -> u8 {
-        if self.fault.is_some() {
-            return 0;
-        }
-        match self.bytes.get(self.at) {
-            Some(byte) => {
-                self.at = self.at.saturating_add(1);
-                *byte
-            }
-            None => {
-                self.refuse(1, self.bytes.len());
-                0
-            }
-        }
-    }
-
-    fn number(&mut self, bound: i64) -> i64 {
+    fn number(&mut self, bound: i64) -> Result<i64, Fault> {
         let start = self.at;
         let mut stored: u64 = 0;
         let mut unit: u64 = 1;
         let mut last: u8 = 0;
         for _ in 0..4 {
-            last = self.byte();
-            stored = stored.saturating_add(unit.saturating_mul((last % 128) as u64));
+            last = self.byte()?;
+            stored = stored.saturating_add(unit.saturating_mul(u64::from(last % 128)));
             if last < 128 {
                 break;
             }
             unit = unit.saturating_mul(128);
         }
         if last >= 128 || (last == 0 && unit > 1) {
-            self.refuse(3, start);
+            return Err(Refusal::Form.at(start));
         }
         let number = signed(stored);
         if number > bound || number < bound.wrapping_neg() {
-            self.refuse(5, start);
+            return Err(Refusal::Bounds.at(start));
         }
-        number
+        Ok(number)
     }
 
-    fn opening(&mut self) {
+    fn opening(&mut self) -> Result<(), Fault> {
         for (place, wanted) in b"ISP1".iter().enumerate() {
-            let byte = self.byte();
-            if byte != *wanted {
-                self.refuse(2, place);
+            if self.byte()? != *wanted {
+                return Err(Refusal::Opening.at(place));
             }
+        }
+        Ok(())
+    }
+
+    fn price(&mut self) -> Result<Option<i64>, Fault> {
+        self.number(PRICE).map(Some)
+    }
+
+    fn avoided(&mut self) -> Result<Option<i64>, Fault> {
+        let place = self.at;
+        match self.byte()? {
+            0 => Ok(None),
+            1 => self.price(),
+            _ => Err(Refusal::UnknownByte.at(place)),
         }
     }
 
-    fn avoided(&mut self) -> Option<i64> {
+    fn slot(&mut self) -> Result<Plain, Fault> {
         let place = self.at;
-        match self.byte() {
-            0 => None,
-            1 => Some(self.number(PRICE)),
-            _ => {
-                self.refuse(4, place);
-                None
-            }
-        }
-    }
-
-    fn slot(&mut self) -> Plain {
-        let place = self.at;
-        let lead = self.byte();
+        let lead = self.byte()?;
         if lead > 4 {
-            self.refuse(4, place);
+            return Err(Refusal::UnknownByte.at(place));
         }
-        if lead == 0 || lead > 4 {
-            return UNREPORTED;
+        if lead == 0 {
+            return Ok(UNREPORTED);
         }
-        Plain {
-            kw: Some(self.number(DEMAND)),
-            up: if lead == 2 || lead == 4 {
-                Some(self.number(PRICE))
-            } else {
-                None
-            },
-            down: if lead > 2 {
-                Some(self.number(PRICE))
-            } else {
-                None
-            },
+        let mut slot = IDLE;
+        slot.kw = Some(self.number(DEMAND)?);
+        if lead == 2 || lead == 4 {
+            slot.up = self.price()?;
         }
+        if lead > 2 {
+            slot.down = self.price()?;
+        }
+        Ok(slot)
     }
 
-    // The slots up to the first fault.
-    fn slots(&mut self) -> [Plain; 228] {
-        let mut slots = [UNREPORTED; 228];
-        for told in slots.iter_mut() {
-            let slot = self.slot();
-            if self.fault.is_none() {
-                *told = slot;
-            }
+    fn end(&self) -> Result<(), Fault> {
+        if self.at < self.bytes.len() {
+            return Err(Refusal::After.at(self.at));
         }
-        slots
+        Ok(())
+    }
+
+    // Of a head with a fault nothing is told, and of the slots those before the first fault.
+    fn tell(&mut self, quarter: &mut Quarter) -> Result<(), Fault> {
+        self.opening()?;
+        let zone_net = self.number(ZONE_NET)?;
+        quarter.avoided = self.avoided()?;
+        quarter.zone_net = zone_net;
+        for slot in quarter.slots.iter_mut() {
+            *slot = self.slot()?;
+        }
+        self.end()
     }
 }
 
 pub(crate) fn read(bytes: &[u8]) -> Told {
-    let mut reader = Reader {
-        bytes,
-        at: 0,
-        fault: None,
+    let mut quarter = Quarter {
+        slots: [UNREPORTED; SLOTS],
+        zone_net: 0,
+        avoided: None,
     };
-    reader.opening();
-    let zone_net = reader.number(ZONE_NET);
-    let avoided = reader.avoided();
-    let whole = reader.fault.is_none();
-    let slots = reader.slots();
-    if reader.at < bytes.len() {
-        let at = reader.at;
-        reader.refuse(6, at);
-    }
-    Told {
-        quarter: Quarter {
-            slots,
-            zone_net: if whole { zone_net } else { 0 },
-            avoided: if whole { avoided } else { None },
-        },
-        fault: reader.fault,
-    }
+    let mut reader = Reader { bytes, at: 0 };
+    let check = reader.tell(&mut quarter);
+    Told { quarter, check }
 }

@@ -1,7 +1,6 @@
 // Calls with plain numbers.
 use metering::imbalance::Imbalance;
 use metering::meter_values::MeterValues;
-use pricing::rulebook::Rulebook;
 use pricing::rulebooks::Finnish;
 use settlement::book::Book;
 use settlement::fault::BookFault;
@@ -23,19 +22,10 @@ pub(crate) fn price(
         up: None,
         down: None,
     }; 228];
-    let told = if slots < 228 {
-        &rows[0..slots]
-    } else {
-        &rows[0..228]
-    };
-    let avoided = match cents {
-        Some(cents) => Price::new(cents).ok(),
-        None => None,
-    };
     let table = Table {
-        rows: told,
+        rows: &rows[..slots.min(228)],
         zone_net: ZoneNet::zero(),
-        avoided,
+        avoided: cents.and_then(|cents| Price::new(cents).ok()),
     };
     book.price(period, &table, &Finnish)
 }
@@ -62,8 +52,5 @@ pub(crate) fn meter(
 
 /// Whether a call was refused with this number at this place.
 pub(crate) fn refused<T: Drop>(answer: Result<T, BookFault>, number: u16, place: usize) -> bool {
-    match answer {
-        Ok(_) => false,
-        Err(fault) => fault.number() == number && fault.place() == place,
-    }
+    answer.is_err_and(|fault| fault.number() == number && fault.place() == place)
 }

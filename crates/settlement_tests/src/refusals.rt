@@ -8,18 +8,24 @@ use std::alloc::Global;
 use std::test::Fail;
 
 fn not_started(heap: Global, periods: usize, parties: usize, count: CountFault) -> bool {
-    match Book::start(heap, periods, parties) {
-        Err(StartFault::Count(fault)) => fault.number() == 14 && fault.place() == count.place(),
-        _ => false,
-    }
+    let started = Book::start(heap, periods, parties);
+    count.number() == 14 && started.is_err_and(|fault| fault == StartFault::Count(count))
 }
 
 #[test]
 fn counts(rt: HostRuntime) {
-    assert!(rt; not_started(rt.alloc(), 0, 0, CountFault::Periods));
-    assert!(rt; not_started(rt.alloc(), 101, 33, CountFault::Periods));
-    assert!(rt; not_started(rt.alloc(), 1, 0, CountFault::Parties));
-    assert!(rt; not_started(rt.alloc(), 100, 33, CountFault::Parties));
+    let cases = [
+        (0, 0, CountFault::Periods),
+        (101, 33, CountFault::Periods),
+        (1, 0, CountFault::Parties),
+        (100, 33, CountFault::Parties),
+    ];
+    for (periods, parties, count) in cases {
+        assert!(rt;
+            not_started(rt.alloc(), periods, parties, count),
+            "{periods}, {parties}"
+        );
+    }
     assert!(rt; CountFault::Periods.place() == 0 && CountFault::Parties.place() == 1);
     assert!(rt; Book::start(rt.alloc(), 1, 1).is_ok());
     assert!(rt; Book::start(rt.alloc(), 100, 32).is_ok());
@@ -38,13 +44,11 @@ fn pricing(rt: HostRuntime) -> Result<(), Fail> {
     assert!(rt; matches!(book.quarter(1)?, Quarter::Priced(_)));
     book.close(1)?;
     assert!(rt; refused(price(&mut book, 1, 9, None), 11, 1));
-    match book.quarter(1)? {
-        Quarter::Closed(quote) => {
-            assert!(rt; quote.code == 5 && quote.price.cents() == 700);
-            Ok(())
-        },
-        _ => Err(Fail::new("the quarter is not closed")),
-    }
+    let Quarter::Closed(quote) = book.quarter(1)? else {
+        return Err(Fail::new("the quarter is not closed"));
+    };
+    assert!(rt; quote.code == 5 && quote.price.cents() == 700);
+    Ok(())
 }
 
 fn values(schedules: &[i64], allocated: i64, adjustment: i64) -> MeterValues<'_> {

@@ -10,11 +10,14 @@ use units::price::Price;
 use units::quantity::Quantity;
 use units::zone_net::ZoneNet;
 
+pub(crate) const IDLE: Row = Row {
+    demand: 0,
+    up: None,
+    down: None,
+};
+
 fn refused<Q: Drop>(made: Result<Q, OutOfBounds>, place: usize) -> bool {
-    match made {
-        Ok(_) => false,
-        Err(fault) => fault.number() == 5 && fault.place() == place,
-    }
+    made.is_err_and(|fault| fault.number() == 5 && fault.place() == place)
 }
 
 #[test]
@@ -31,117 +34,87 @@ fn bounds(rt: HostRuntime) -> Result<(), Fail> {
     Ok(())
 }
 
-fn is_reported(row: Row) -> bool {
-    match row.slot() {
-        Slot::Reported(_) => true,
-        Slot::Unreported => false,
-    }
-}
-
 #[test]
 fn rows(rt: HostRuntime) {
-    assert!(rt;
-        is_reported(Row {
-            demand: 10_000_000,
-            up: Some(9_999_900),
-            down: Some(-9_999_900),
-        })
-    );
-    assert!(rt;
-        !is_reported(Row {
+    let widest = Row {
+        demand: 10_000_000,
+        up: Some(9_999_900),
+        down: Some(-9_999_900),
+    };
+    assert!(rt; matches!(widest.slot(), Slot::Reported(_)));
+    let beyond = [
+        Row {
             demand: -10_000_001,
-            up: None,
-            down: None,
-        })
-    );
-    assert!(rt;
-        !is_reported(Row {
-            demand: 0,
+            ..IDLE
+        },
+        Row {
             up: Some(9_999_901),
-            down: None,
-        })
-    );
-    assert!(rt;
-        !is_reported(Row {
-            demand: 0,
-            up: None,
+            ..IDLE
+        },
+        Row {
             down: Some(-9_999_901),
-        })
-    );
-    assert!(rt;
-        !is_reported(Row {
+            ..IDLE
+        },
+        Row {
             demand: i64::MIN,
             up: Some(i64::MAX),
             down: None,
-        })
-    );
+        },
+    ];
+    for row in beyond {
+        assert!(rt; matches!(row.slot(), Slot::Unreported));
+    }
 }
 
-fn up_cents(slot: Slot) -> Option<i64> {
-    match slot {
-        Slot::Unreported => None,
-        Slot::Reported(reading) => match reading.up {
-            Some(price) => Some(price.cents()),
-            None => None,
-        },
+fn table(rows: &[Row], avoided: Option<Price>) -> Table<'_> {
+    Table {
+        rows,
+        zone_net: ZoneNet::zero(),
+        avoided,
     }
 }
 
 fn up_cents_at<S: PriceSource>(source: &S, slot: usize) -> Option<i64> {
-    up_cents(source.slot(slot).ok().unwrap_or(Slot::Unreported))
+    match source.slot(slot) {
+        Ok(Slot::Reported(reading)) => reading.up.map(|price| price.cents()),
+        _ => None,
+    }
 }
 
 #[test]
-fn missing_rows(rt: HostRuntime) -> Result<(), Fail> {
+fn missing_rows(rt: HostRuntime) {
     let rows = [Row {
         demand: 1,
         up: Some(7),
         down: None,
     }; 3];
-    let table = Table {
-        rows: &rows,
-        zone_net: ZoneNet::zero(),
-        avoided: None,
-    };
+    let table = table(&rows, None);
     assert!(rt; matches!(table.slot(2), Ok(Slot::Reported(_))));
     assert!(rt; matches!(table.slot(3), Ok(Slot::Unreported)));
     assert!(rt; matches!(table.slot(227), Ok(Slot::Unreported)));
-    match table.slot(228) {
-        Ok(_) => Err(Fail::new("slot 228 was told")),
-        Err(fault) => {
-            assert!(rt; fault.number() == 16 && fault.place() == 228);
-            Ok(())
-        },
-    }
+    assert!(rt;
+        table
+            .slot(228)
+            .is_err_and(|fault| fault.number() == 16 && fault.place() == 228)
+    );
 }
 
 // A cycle with demand and no price takes the avoided value, a manual slot does not, and a fill over a fill adds nothing.
 #[test]
 fn filled(rt: HostRuntime) -> Result<(), Fail> {
-    let rows = [Row {
-        demand: 5,
-        up: None,
-        down: None,
-    }; 228];
-    let table = Table {
-        rows: &rows,
-        zone_net: ZoneNet::zero(),
-        avoided: Some(Price::new(4_000)?),
+    let rows = [Row { demand: 5, ..IDLE }; 228];
+    let fill = NettingFill {
+        below: table(&rows, Some(Price::new(4_000)?)),
     };
-    let fill = NettingFill { below: table };
     let twice = NettingFill { below: fill };
     assert_eq!(rt; up_cents_at(&fill, 0), Some(4_000));
     assert_eq!(rt; up_cents_at(&fill, 224), Some(4_000));
     assert_eq!(rt; up_cents_at(&fill, 225), None);
     assert_eq!(rt; up_cents_at(&twice, 224), Some(4_000));
     let bare = NettingFill {
-        below: Table {
-            rows: &rows,
-            zone_net: ZoneNet::zero(),
-            avoided: None,
-        },
+        below: table(&rows, None),
     };
     assert_eq!(rt; up_cents_at(&bare, 0), None);
-    assert!(rt; matches!(bare.slot(228), Err(_)));
+    assert!(rt; bare.slot(228).is_err());
     Ok(())
 }

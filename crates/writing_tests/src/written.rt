@@ -1,4 +1,5 @@
 // Sheets written from sources, and read again.
+use crate::sources::IDLE;
 use sheet::sheet::Sheet;
 use source::netting_fill::NettingFill;
 use source::price_source::PriceSource;
@@ -12,29 +13,23 @@ use writing::sheet_writer::{sheet_len, sheet_vec, write_sheet};
 // A table of no rows has the least sheet but for its head.
 #[test]
 fn short_buffer(rt: HostRuntime) -> Result<(), Fail> {
-    let rows: [Row; 0] = [];
     let table = Table {
-        rows: &rows,
+        rows: &[],
         zone_net: ZoneNet::new(64)?,
         avoided: None,
     };
     assert!(rt; sheet_len(&table) == 235);
     let mut out = [9u8; 234];
-    match write_sheet(&table, &mut out) {
-        Ok(_) => Err(Fail::new("a buffer that is too short was taken")),
-        Err(fault) => {
-            assert!(rt; fault.number() == 15 && fault.place() == 235);
-            assert!(rt; out[0] == 9 && out[233] == 9);
-            Ok(())
-        }
-    }
+    let written = write_sheet(&table, &mut out);
+    assert!(rt; written.is_err_and(|fault| fault.number() == 15 && fault.place() == 235));
+    assert!(rt; out[0] == 9 && out[233] == 9);
+    Ok(())
 }
 
 #[test]
 fn rest_is_kept(rt: HostRuntime) -> Result<(), Fail> {
-    let rows: [Row; 0] = [];
     let table = Table {
-        rows: &rows,
+        rows: &[],
         zone_net: ZoneNet::new(-1)?,
         avoided: Some(Price::new(64)?),
     };
@@ -56,23 +51,21 @@ fn round_trip(rt: HostRuntime) -> Result<(), Fail> {
     }; 228];
     rows[0] = Row {
         demand: 10_000_000,
-        up: None,
-        down: None,
+        ..IDLE
     };
     rows[1] = Row {
         demand: 1,
         up: Some(63),
-        down: None,
+        ..IDLE
     };
     rows[2] = Row {
         demand: -1,
-        up: None,
         down: Some(-64),
+        ..IDLE
     };
     rows[3] = Row {
         demand: i64::MAX,
-        up: None,
-        down: None,
+        ..IDLE
     };
     let table = Table {
         rows: &rows,

@@ -1,0 +1,89 @@
+// What becomes of the generated sheets, counted.
+use crate::fault::Refusal;
+use crate::reader::Told;
+use crate::rules::{Quote, Rules, quote_of};
+use std::fmt;
+
+/// A refused sheet, or the quote under code 1.
+#[derive(Clone, Copy, PartialEq, Eq)]
+pub(crate) enum Outcome {
+    Sheet(Refusal),
+    Quote(Refusal),
+    Up,
+    Down,
+    Avoided,
+}
+
+impl Outcome {
+    pub(crate) fn of(told: &Told) -> Outcome {
+        if let Err(fault) = told.check {
+            return Outcome::Sheet(fault.refusal);
+        }
+        match quote_of(&told.quarter, Rules::WeightedAverage) {
+            Ok(Quote::Up(_)) => Outcome::Up,
+            Ok(Quote::Down(_)) => Outcome::Down,
+            Ok(Quote::Avoided(_)) => Outcome::Avoided,
+            Err(fault) => Outcome::Quote(fault.refusal),
+        }
+    }
+}
+
+impl fmt::Display for Outcome {
+    fn fmt<W: fmt::Write>(&self, f: &mut fmt::Formatter<W>) -> fmt::Result {
+        match *self {
+            Outcome::Sheet(refusal) => write!(f, "refusal {}", refusal.number()),
+            Outcome::Quote(refusal) => write!(f, "code 1, refusal {}", refusal.number()),
+            Outcome::Up => write!(f, "code 1 up"),
+            Outcome::Down => write!(f, "code 1 down"),
+            Outcome::Avoided => write!(f, "code 1 avoided"),
+        }
+    }
+}
+
+// The outcomes in the order in which they are printed.
+static OUTCOMES: [Outcome; 11] = [
+    Outcome::Sheet(Refusal::Ends),
+    Outcome::Sheet(Refusal::Opening),
+    Outcome::Sheet(Refusal::Form),
+    Outcome::Sheet(Refusal::UnknownByte),
+    Outcome::Sheet(Refusal::Bounds),
+    Outcome::Sheet(Refusal::After),
+    Outcome::Quote(Refusal::Unreported),
+    Outcome::Quote(Refusal::NoAvoided),
+    Outcome::Up,
+    Outcome::Down,
+    Outcome::Avoided,
+];
+
+/// How often an outcome came.
+#[derive(Clone, Copy)]
+pub(crate) struct Tally {
+    pub outcome: Outcome,
+    pub count: u64,
+}
+
+/// A count for each outcome, and one for all that no sheet is to have.
+#[derive(Clone, Copy)]
+pub(crate) struct Tallies {
+    pub other: u64,
+    pub rows: [Tally; 11],
+}
+
+impl Tallies {
+    pub(crate) fn new() -> Tallies {
+        Tallies {
+            other: 0,
+            rows: OUTCOMES.map(|outcome| Tally { outcome, count: 0 }),
+        }
+    }
+
+    pub(crate) fn add(&mut self, outcome: Outcome) {
+        for row in self.rows.iter_mut() {
+            if row.outcome == outcome {
+                row.count = row.count.saturating_add(1);
+                return;
+            }
+        }
+        self.other = self.other.saturating_add(1);
+    }
+}
