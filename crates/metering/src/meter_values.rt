@@ -23,7 +23,7 @@ pub struct MeterValues<'a> {
 fn in_bounds(kwh: i64) -> bool
     ensures { result ≡ in_bounds kwh }
 {
-    kwh >= -LIMIT && kwh <= LIMIT
+    (-LIMIT..=LIMIT).contains(&kwh)
 }
 
 // The sum of the schedules, which stays small since each is in bounds; or the first that is not.
