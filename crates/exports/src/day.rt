@@ -15,11 +15,7 @@ use std::alloc::Global;
 
 // The part of the bytes between two places, or nothing where there is no such part.
 fn part<'a>(bytes: &'a [u8], start: usize, end: usize) -> &'a [u8] {
-    if start <= end && end <= bytes.len() {
-        &bytes[start..end]
-    } else {
-        &[]
-    }
+    bytes.get(start..end).unwrap_or(&[])
 }
 
 // Prices each quarter from its own sheet, and answers how many have a price.
@@ -28,13 +24,12 @@ fn price_all(book: &mut Book, sheets: &[u8], ends: &[usize]) -> usize
 {
     let mut priced = 0;
     let mut start = 0;
-    for period in 0..ends.len() {
-        let end = ends[period];
-        let sheet = Sheet::read(part(sheets, start, end));
-        if let Ok(_) = book.price(period, &sheet, &Finnish) {
+    for (period, end) in ends.iter().enumerate() {
+        let sheet = Sheet::read(part(sheets, start, *end));
+        if book.price(period, &sheet, &Finnish).is_ok() {
             priced += 1;
         }
-        start = end;
+        start = *end;
     }
     priced
 }
@@ -63,25 +58,27 @@ fn meter_all(book: &mut Book, periods: usize, parties: usize) {
 
 // Settles each party that has a place for its payment.
 fn settle_all(book: &mut Book, payments: &mut [i64]) {
-    for party in 0..payments.len() {
-        if let Ok(payment) = book.settle(party) {
-            payments[party] = payment.cents;
+    for (party, payment) in payments.iter_mut().enumerate() {
+        if let Ok(paid) = book.settle(party) {
+            *payment = paid.cents;
         }
     }
 }
 
-fn not_started(fault: StartFault) -> PlainDay
-    ensures { result ≡ not_started fault }
-{
-    let (refusal, place) = match fault {
-        StartFault::Count(count) => (count.number(), count.place()),
-        StartFault::Memory => (0, 0),
-    };
-    PlainDay {
-        started: false,
-        refusal,
-        place,
-        priced: 0,
+impl From<StartFault> for PlainDay {
+    ghost from_gives = { λ f d. d ≡ not_started f };
+
+    fn from(fault: StartFault) -> PlainDay {
+        let (refusal, place) = match fault {
+            StartFault::Count(count) => (count.number(), count.place()),
+            StartFault::Memory => (0, 0),
+        };
+        PlainDay {
+            started: false,
+            refusal,
+            place,
+            priced: 0,
+        }
     }
 }
 
@@ -101,7 +98,7 @@ pub extern "C" fn fumeliosa_day(
 {
     let mut book = match Book::start(heap, ends.len(), parties) {
         Ok(book) => book,
-        Err(fault) => return not_started(fault),
+        Err(fault) => return PlainDay::from(fault),
     };
     let priced = price_all(&mut book, sheets, ends);
     meter_all(&mut book, ends.len(), parties);

@@ -32,24 +32,26 @@ fn refused_as(refusal: u16, place: usize) -> PlainQuote
     }
 }
 
-fn plain_answer(answer: Result<Quote, QuoteFault>) -> PlainQuote
-    ensures { result ≡ plain_answer answer }
-{
-    match answer {
-        Ok(quote) => PlainQuote {
-            refusal: 0,
-            direction: side_of(quote.direction),
-            place: 0,
-            cents: quote.price.cents(),
-        },
-        Err(fault) => refused_as(fault.number(), fault.place()),
+impl From<Result<Quote, QuoteFault>> for PlainQuote {
+    ghost from_gives = { λ a q. q ≡ plain_answer a };
+
+    fn from(answer: Result<Quote, QuoteFault>) -> PlainQuote {
+        match answer {
+            Ok(quote) => PlainQuote {
+                refusal: 0,
+                direction: side_of(quote.direction),
+                place: 0,
+                cents: quote.price.cents(),
+            },
+            Err(fault) => refused_as(fault.number(), fault.place()),
+        }
     }
 }
 
 fn plain_quote<R: Rulebook>(figures: &Figures, rulebook: &R) -> PlainQuote
     ensures { result ≡ plain_outcome (R.Rulebook.ruling figures.now) figures.now.avoided }
 {
-    plain_answer(quote_figures(figures, rulebook))
+    PlainQuote::from(quote_figures(figures, rulebook))
 }
 
 fn plain_figures(figures: &Figures) -> PlainQuarter

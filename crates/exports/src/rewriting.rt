@@ -15,8 +15,5 @@ pub extern "C" fn fumeliosa_rewrite(bytes: &[u8], out: &mut [u8]) -> usize
     ensures leaves { out.new ≡ left (sheet_bytes (sheet_meaning bytes.now)) out.old }
 {
     let sheet = Sheet::read(bytes);
-    match write_sheet(&sheet, out) {
-        Ok(len) => len,
-        Err(short) => short.needed,
-    }
+    write_sheet(&sheet, out).unwrap_or_else(|short| short.needed)
 }

@@ -1,6 +1,6 @@
 // From meter values to the imbalance.
 ghost use Rattle.std.specs.Prelude.{◌≡◌, ◌≤◌, length, IfOk, unsigned_abs};
-ghost use Rattle.metering.specs.Imbalances.{balanced, imbalance_of, in_bounds, kwh_of, position_of, values_of};
+ghost use Rattle.metering.specs.Imbalances.{balanced, imbalance_of, in_bounds, kwh_of, position_of, unless, unless_fault, values_of};
 
 use crate::fault::MeteringFault;
 use crate::imbalance::Imbalance;
@@ -20,10 +20,15 @@ pub struct MeterValues<'a> {
     pub adjustment: i64,
 }
 
-fn in_bounds(kwh: i64) -> bool
-    ensures { result ≡ in_bounds kwh }
+fn bounded(kwh: i64, fault: MeteringFault) -> Result<i64, MeteringFault>
+    ensures value { result ≡ unless_fault (unless (in_bounds kwh) fault) kwh }
+    ensures bound { IfOk result (λ z. unsigned_abs z ≤ 5_000_000) }
 {
-    kwh >= -LIMIT && kwh <= LIMIT
+    if (-LIMIT..=LIMIT).contains(&kwh) {
+        Ok(kwh)
+    } else {
+        Err(fault)
+    }
 }
 
 // The sum of the schedules, which stays small since each is in bounds; or the first that is not.
@@ -34,10 +39,7 @@ fn position_of(schedules: &[i64]) -> Result<i64, MeteringFault>
 {
     let mut position = 0;
     for (index, schedule) in schedules.iter().enumerate() {
-        if !in_bounds(*schedule) {
-            return Err(MeteringFault::Schedule { index });
-        }
-        position += *schedule;
+        position += bounded(*schedule, MeteringFault::Schedule { index })?;
     }
     Ok(position)
 }
@@ -65,18 +67,11 @@ impl MeterValues<'_> {
         if self.schedules.len() > SCHEDULES {
             return Err(MeteringFault::TooManySchedules);
         }
-        let position = position_of(self.schedules)?;
-        if !in_bounds(position) {
-            return Err(MeteringFault::Position);
-        }
-        if !in_bounds(self.allocated) {
-            return Err(MeteringFault::Allocated);
-        }
-        if !in_bounds(self.adjustment) {
-            return Err(MeteringFault::Adjustment);
-        }
+        let position = bounded(position_of(self.schedules)?, MeteringFault::Position)?;
+        let allocated = bounded(self.allocated, MeteringFault::Allocated)?;
+        let adjustment = bounded(self.adjustment, MeteringFault::Adjustment)?;
         Ok(Imbalance {
-            kwh: (self.allocated - position - self.adjustment) as i32,
+            kwh: (allocated - position - adjustment) as i32,
         })
     }
 }

@@ -1,9 +1,9 @@
 -- Each call keeps that the book holds what the run says.
-use Rattle.std.proofs.Common.{◌≡◌, ℕ, zero, suc, ◌+◌, ◌*◌, ◌/◌, ◌%◌, ◌<◌, ◌≤◌, Bool, true, false, not, ◌&&◌, eqb, ◌≢◌, List, [], ◌∷◌, length, get_or, set, replicate, ℤ, ◌+ℤ◌, ◌-ℤ◌, ◌*ℤ◌, Some, None, Ok, Err, vec_items, Option, sym, refl, ap, ◌∙◌, subst, ⊎_elim, arith, get_or-set_other, get_or-set_same}
+use Rattle.std.proofs.Common.{◌≡◌, ℕ, zero, suc, ◌<◌, ◌≤◌, Bool, true, false, not, ◌&&◌, eqb, ◌≢◌, List, [], ◌∷◌, length, get_or, set, map, replicate, ℤ, ◌+ℤ◌, ◌-ℤ◌, ◌*ℤ◌, Some, None, Ok, Err, IfOk, vec_items, vec_len, Option, Result, sym, refl, ap, ◌∙◌, subst, ⊎_elim, arith, get_or-set_other, get_or-set_same}
 use borrow.Author.Differences.{ints}
 use Rattle.std.specs.Option.{option_map}
 use Rattle.std.proofs.lemmas.Bool.{eqb-true, eq-eqb, ne_eqb, cases_Bool, cases_eq, cases_lt, and_parts, and_from}
-use Rattle.std.proofs.lemmas.Nat.{mul-add-lt, div-mul-add, mod-mul-add}
+use Rattle.std.proofs.lemmas.List.{get_or-replicate, length-map}
 use Rattle.metering.specs.Imbalances.{Values, balanced, imbalance, kwh_of, metering_fault, or_next, unless, unless_fault}
 use Rattle.metering.specs.declared.imbalance.Imbalance.{Imbalance}
 use Rattle.pricing.specs.declared.quote.Quote.{Quote}
@@ -11,19 +11,21 @@ use Rattle.source.specs.Meanings.{Meaning}
 use Rattle.units.proofs.Rounds.{nearest_rounded}
 use Rattle.units.specs.Rounding.{rounded}
 use Rattle.units.specs.declared.euros.Amount.{Amount}
-use Rattle.settlement.specs.Books.{Filed, Fresh, Metered, Paid, imbalance_at, in_book, paid_to, quarter_at}
+use Rattle.settlement.specs.Books.{Filed, Fresh, Metered, Paid, imbalance_at, in_book, paid_to, payments_in, quarter_at, volumes_in, volumes_of}
 use Rattle.settlement.specs.Events.{Event, priced, metered, closed, settled, Filing, Lawful, Rules, after_run, last_pricing, volume_after, payments_since, quarter_after, stands_as, was_closed, when}
-use Rattle.settlement.specs.Known.{party_fault, payable, period_fault, unless_refused, volume_fault, worth}
+use Rattle.settlement.specs.Known.{party_fault, payable, period_fault, place_fault, unless_refused, volume_fault, worth}
 use Rattle.settlement.specs.Payments.{nothing}
 use Rattle.settlement.specs.Quarters.{closed_as, closing, is_closed, standing_cents}
 use Rattle.settlement.specs.Runs.{Answered, Changes, Did, FairlyPaid, PricedAs, RightPrice, Run, begun, after, Sound, Whole, WithinBounds}
 use Rattle.settlement.specs.declared.book.Book.{Book}
+use Rattle.settlement.specs.declared.fault.BookFault.{BookFault}
 use Rattle.settlement.specs.declared.fault.BookFault.TheVariants.{QuarterClosed, Metering}
 use Rattle.settlement.specs.declared.quarter.Quarter.{Quarter}
 use Rattle.settlement.specs.declared.quarter.Quarter.TheVariants.{Blank, Priced, Closed}
 use Rattle.settlement.proofs.Checks.{Accepted, Shut, accepted, closing_accepted, or_none, party_known, party_past, period_known, pricing_accepted}
 use Rattle.settlement.proofs.Filings.{filed, right, within_bounds}
 use Rattle.settlement.proofs.Only.{only}
+use Rattle.settlement.proofs.Readings.{SameCounts, filed_counts, metered_counts, paid_counts, volumes_long}
 use Rattle.settlement.proofs.Sums.{sum_same}
 
 abbrev Bounds : Filing → Type 0
@@ -35,8 +37,8 @@ pub record Reached (h : List Event) (b : Book) : Type 0 where
   pub closings : (p : ℕ) → is_closed (quarter_at b p) ≡ was_closed h p
   pub prices : (p : ℕ) (f : Filing) → last_pricing h p ≡ Some f → RightPrice f
   pub bounds : (p : ℕ) (f : Filing) → last_pricing h p ≡ Some f → Bounds f
-  pub volumes : (p q : ℕ) → p < b.periods → q < b.parties → (imbalance_at b p q).kwh ≡ volume_after h p q
-  pub payments : (q : ℕ) → q < b.parties → (paid_to b q).cents ≡ payments_since h q
+  pub volumes : (p q : ℕ) → p < vec_len b.quarters → q < vec_len b.parties → (imbalance_at b p q).kwh ≡ volume_after h p q
+  pub payments : (q : ℕ) → q < vec_len b.parties → (paid_to b q).cents ≡ payments_since h q
 
 -- A PLACE THAT IS WRITTEN, AND THE OTHERS
 
@@ -47,13 +49,6 @@ written xs i j x d P l new old =
     (λ (s : i ≡ j). subst (λ (k : ℕ). P (get_or (set xs i x) k d)) s (subst P (sym (get_or-set_same xs i x d l)) (new s)))
     (λ (n : i ≡ j → ⊥). let ne : j ≢ i = λ w. n (sym w) in subst P (sym (get_or-set_other xs i j x d ne)) (old n))
     (cases_eq i j)
-
--- a place determines its period and its party
-places_apart : (n p q p' q' : ℕ) → q < n → q' < n → p * n + q ≡ p' * n + q' → (p ≡ p') × (q ≡ q')
-places_apart n p q p' q' l l' e = (
-  sym (div-mul-add p n q l) ∙ ap (λ (x : ℕ). x / n) e ∙ div-mul-add p' n q' l',
-  sym (mod-mul-add p n q l) ∙ ap (λ (x : ℕ). x % n) e ∙ mod-mul-add p' n q' l',
-)
 
 -- two places that differ, by the test
 apart : (p q p' q' : ℕ) → (p ≡ p' → q ≡ q' → ⊥) → (eqb p p' && eqb q q') ≡ false
@@ -77,6 +72,7 @@ priced_run : (h : List Event) (b b' : Book) (p : ℕ) (m : Meaning) (r : Rules) 
 priced_run h b b' p m r x laws a f k =
     let qs : List Quarter = vec_items b.quarters in
     let within : p < length qs = omega (arith, a.within, b.quarters.ok.0) in
+    let n = filed_counts b b' p x f in
     let unclosed : was_closed h p ≡ false = sym (k.closings p) ∙ a.unclosed in
     let bounded : Bounds (filed m r x) = λ q e. let same : a.quote ≡ q = quote_same _ _ (sym a.is ∙ e) in subst (λ (w : Quote). WithinBounds w.direction m w.price.cents) same (within_bounds m r a.quote laws a.quoted) in
     record {
@@ -88,8 +84,8 @@ priced_run h b b' p m r x laws a f k =
           (λ n. k.closings p'));
       prices = λ p' g e. last_is (eqb p p') _ (filed m r x) g RightPrice e (right m r x a.quote laws a.is a.quoted) (k.prices p' g);
       bounds = λ p' g e. last_is (eqb p p') _ (filed m r x) g Bounds e bounded (k.bounds p' g);
-      volumes = λ p' q' l l'. rw (f.volumes, f.parties) (k.volumes p' q' (omega arith) (omega arith));
-      payments = λ q' l. rw f.paid (k.payments q' (omega arith));
+      volumes = λ p' q' l l'. rw f.parties (k.volumes p' q' (omega (arith, l, n.0)) (omega (arith, l', n.1)));
+      payments = λ q' l. rw f.parties (k.payments q' (omega (arith, l, n.1)));
     }
 
 -- CLOSING
@@ -108,6 +104,7 @@ closed_run : (h : List Event) (b b' : Book) (p : ℕ) (x : Quarter) → Shut (in
 closed_run h b b' p x a f k =
     let qs : List Quarter = vec_items b.quarters in
     let within : p < length qs = omega (arith, a.within, b.quarters.ok.0) in
+    let n = filed_counts b b' p x f in
     record {
       standings = λ p'. rw f.quarters (written qs p p' x Blank (λ y. y ≡ quarter_after (closed p (Ok x) ∷ h) p') within
           (λ s. subst (λ (w : ℕ). x ≡ quarter_after (closed p (Ok x) ∷ h) w) s
@@ -118,48 +115,48 @@ closed_run h b b' p x a f k =
           (λ n. rw (ne_eqb p p' n) (k.closings p')));
       prices = k.prices;
       bounds = k.bounds;
-      volumes = λ p' q' l l'. rw (f.volumes, f.parties) (k.volumes p' q' (omega arith) (omega arith));
-      payments = λ q' l. rw f.paid (k.payments q' (omega arith));
+      volumes = λ p' q' l l'. rw f.parties (k.volumes p' q' (omega (arith, l, n.0)) (omega (arith, l', n.1)));
+      payments = λ q' l. rw f.parties (k.payments q' (omega (arith, l, n.1)));
     }
 
 -- METERING
 
-metered_run : (h : List Event) (b b' : Book) (p q : ℕ) (v : Values) (i : Imbalance) → p < b.periods → q < b.parties → i.kwh ≡ imbalance v → Metered b b' p q i → Reached h b → Reached (metered p q v (Ok i) ∷ h) b'
+metered_run : (h : List Event) (b b' : Book) (p q : ℕ) (v : Values) (i : Imbalance) → p < vec_len b.quarters → q < vec_len b.parties → i.kwh ≡ imbalance v → Metered b b' p q i → Reached h b → Reached (metered p q v (Ok i) ∷ h) b'
 metered_run h b b' p q v i lp lq e f k =
-    let vs : List Imbalance = vec_items b.volumes in
-    let n : ℕ = b.parties in
-    let within : p * n + q < length vs = omega (arith, mul-add-lt p n q b.periods lp lq, b.volumes.ok.0) in
+    let n = metered_counts b b' p q i f in
+    let rows : q < length (volumes_in b) = omega (arith, lq, b.parties.ok.0, length-map (vec_items b.parties) (λ party. vec_items party.volumes)) in
+    let places : p < length (volumes_of b q) = omega (arith, lp, volumes_long b q lq) in
     record {
       standings = λ p'. rw f.quarters (k.standings p');
       closings = λ p'. rw f.quarters (k.closings p');
       prices = k.prices;
       bounds = k.bounds;
-      volumes = λ p' q' l l'. rw (f.volumes, f.parties) (written vs (p * n + q) (p' * n + q') i balanced (λ y. y.kwh ≡ volume_after (metered p q v (Ok i) ∷ h) p' q') within
-          (λ s.
-          let w = places_apart n p q p' q' lq (omega arith) s in
-          rw (and_from _ _ (eq-eqb p p' w.0) (eq-eqb q q' w.1)) e)
-          (λ d.
-          let w : (eqb p p' && eqb q q') ≡ false = apart p q p' q' (λ x y. d (ap (λ (z : ℕ). z * n + q) x ∙ ap (λ (z : ℕ). p' * n + z) y)) in
-          rw w (k.volumes p' q' (omega arith) (omega arith))));
-      payments = λ q' l. rw f.paid (k.payments q' (omega arith));
+      volumes = λ p' q' l l'.
+          let before : (imbalance_at b p' q').kwh ≡ volume_after h p' q' = k.volumes p' q' (omega (arith, l, n.0)) (omega (arith, l', n.1)) in
+          rw f.volumes (written (volumes_in b) q q' (set (volumes_of b q) p i) [] (λ row. (get_or row p' balanced).kwh ≡ volume_after (metered p q v (Ok i) ∷ h) p' q') rows
+          (λ s. written (volumes_of b q) p p' i balanced (λ y. y.kwh ≡ volume_after (metered p q v (Ok i) ∷ h) p' q') places
+          (λ t. rw (and_from _ _ (eq-eqb p p' t) (eq-eqb q q' s)) e)
+          (λ d. rw (apart p q p' q' (λ x y. d x)) (subst (λ (w : ℕ). (imbalance_at b p' w).kwh ≡ volume_after h p' q') (sym s) before)))
+          (λ d. rw (apart p q p' q' (λ x y. d y)) before));
+      payments = λ q' l. rw f.paid (k.payments q' (omega (arith, l, n.1)));
     }
 
 -- SETTLING
 
-settled_run : (h : List Event) (b b' : Book) (q : ℕ) (x : Amount) → q < b.parties → Paid b b' q (record { cents = (paid_to b q).cents +ℤ x.cents }) → Reached h b → Reached (settled q (Ok x) ∷ h) b'
+settled_run : (h : List Event) (b b' : Book) (q : ℕ) (x : Amount) → q < vec_len b.parties → Paid b b' q (record { cents = (paid_to b q).cents +ℤ x.cents }) → Reached h b → Reached (settled q (Ok x) ∷ h) b'
 settled_run h b b' q x lq f k =
-    let ps : List Amount = vec_items b.paid in
-    let within : q < length ps = omega (arith, b.paid.ok.0) in
+    let n = paid_counts b b' q _ f in
+    let within : q < length (payments_in b) = omega (arith, lq, b.parties.ok.0, length-map (vec_items b.parties) (λ party. party.paid)) in
     record {
       standings = λ p'. rw f.quarters (k.standings p');
       closings = λ p'. rw f.quarters (k.closings p');
       prices = k.prices;
       bounds = k.bounds;
-      volumes = λ p' q' l l'. rw (f.volumes, f.parties) (k.volumes p' q' (omega arith) (omega arith));
-      payments = λ q' l. rw f.paid (written ps q q' (record { cents = (paid_to b q).cents +ℤ x.cents }) nothing (λ y. y.cents ≡ payments_since (settled q (Ok x) ∷ h) q') within
+      volumes = λ p' q' l l'. rw f.volumes (k.volumes p' q' (omega (arith, l, n.0)) (omega (arith, l', n.1)));
+      payments = λ q' l. rw f.paid (written (payments_in b) q q' (record { cents = (paid_to b q).cents +ℤ x.cents }) nothing (λ y. y.cents ≡ payments_since (settled q (Ok x) ∷ h) q') within
           (λ s. subst (λ (w : ℕ). (paid_to b q).cents +ℤ x.cents ≡ payments_since (settled q (Ok x) ∷ h) w) s
           (rw (eq-eqb q q refl) (omega (arith, ints, k.payments q lq))))
-          (λ n. rw (ne_eqb q q' n) (k.payments q' (omega arith))));
+          (λ d. rw (ne_eqb q q' d) (k.payments q' (omega (arith, l, n.1)))));
     }
 
 -- STARTING
@@ -171,14 +168,14 @@ all_same (suc n) (suc p) x = all_same n p x
 
 pub fresh_run : (b : Book) → Fresh b → Reached [] b
 fresh_run b f =
-    let blank : (p : ℕ) → quarter_at b p ≡ Blank = λ p. rw f.blank (all_same b.periods p Blank) in
+    let blank : (p : ℕ) → quarter_at b p ≡ Blank = λ p. rw f.blank (all_same (vec_len b.quarters) p Blank) in
     record {
       standings = blank;
       closings = λ p. rw (blank p) refl;
       prices = λ p g e. let z : ◌≡◌ {A = ℕ} 0 1 = cc in absurd (omega arith);
       bounds = λ p g e. let z : ◌≡◌ {A = ℕ} 0 1 = cc in absurd (omega arith);
-      volumes = λ p q l l'. rw (f.unmetered, all_same (b.periods * b.parties) (p * b.parties + q) balanced) refl;
-      payments = λ q l. rw (f.unpaid, all_same b.parties q nothing) refl;
+      volumes = λ p q l l'. rw (f.unmetered, get_or-replicate (vec_len b.parties) q (replicate (vec_len b.quarters) balanced) [] l', all_same (vec_len b.quarters) p balanced) refl;
+      payments = λ q l. rw (f.unpaid, all_same (vec_len b.parties) q nothing) refl;
     }
 
 -- EVERY CALL
@@ -205,22 +202,22 @@ step h (settled q (Err f)) b b' d k = unchanged _ h b b' d.changes (record { sta
 
 -- THE ANSWER, BY THE RUN
 
-same_worth : (h : List Event) (b : Book) (q : ℕ) → q < b.parties → Reached h b → worth (in_book b) q ≡ worth (after_run b.periods b.parties h) q
+same_worth : (h : List Event) (b : Book) (q : ℕ) → q < vec_len b.parties → Reached h b → worth (in_book b) q ≡ worth (after_run (vec_len b.quarters) (vec_len b.parties) h) q
 same_worth h b q l k =
-    sum_same b.periods (λ p. (imbalance_at b p q).kwh *ℤ standing_cents (quarter_at b p)) (λ p. volume_after h p q *ℤ standing_cents (quarter_after h p))
+    sum_same (vec_len b.quarters) (λ p. (imbalance_at b p q).kwh *ℤ standing_cents (quarter_at b p)) (λ p. volume_after h p q *ℤ standing_cents (quarter_after h p))
     (λ p lp. ap (λ (v : ℤ). v *ℤ standing_cents (quarter_at b p)) (k.volumes p q lp l) ∙ ap (λ (x : Quarter). volume_after h p q *ℤ standing_cents x) (k.standings p))
 
-answered_after : (h : List Event) (e : Event) (b : Book) → Reached h b → Answered (in_book b) e → Answered (after_run b.periods b.parties h) e
+answered_after : (h : List Event) (e : Event) (b : Book) → Reached h b → Answered (in_book b) e → Answered (after_run (vec_len b.quarters) (vec_len b.parties) h) e
 answered_after h (priced p m r a) b k d = subst (λ (x : Quarter). PricedAs (or_next (period_fault (in_book b) p) (unless (not (is_closed x)) (QuarterClosed p))) p m r a) (k.standings p) d
 answered_after h (metered p q v a) b k d = subst (λ (x : Quarter). kwh_of a ≡ unless_fault (or_next (period_fault (in_book b) p) (or_next (party_fault (in_book b) q) (or_next (unless (not (is_closed x)) (QuarterClosed p)) (option_map Metering (metering_fault v))))) (imbalance v)) (k.standings p) d
 answered_after h (closed p a) b k d = subst (λ (x : Quarter). a ≡ unless_refused (period_fault (in_book b) p) (closing p x)) (k.standings p) d
 answered_after h (settled q a) b k d =
     ⊎_elim
-    (λ (l : q < b.parties). d ∙ ap (unless_fault (party_fault (in_book b) q)) (ap (λ (t : ℤ). rounded t 1000 -ℤ (paid_to b q).cents) (same_worth h b q l k) ∙ ap (λ (z : ℤ). rounded (worth (after_run b.periods b.parties h) q) 1000 -ℤ z) (k.payments q l)))
-    (λ (l : b.parties ≤ q).
+    (λ (l : q < vec_len b.parties). d ∙ ap (unless_fault (party_fault (in_book b) q)) (ap (λ (t : ℤ). rounded t 1000 -ℤ (paid_to b q).cents) (same_worth h b q l k) ∙ ap (λ (z : ℤ). rounded (worth (after_run (vec_len b.quarters) (vec_len b.parties) h) q) 1000 -ℤ z) (k.payments q l)))
+    (λ (l : vec_len b.parties ≤ q).
     let e = party_past (in_book b) q l in
-    d ∙ ap (λ o. unless_fault o (payable (in_book b) q)) e ∙ sym (ap (λ o. unless_fault o (payable (after_run b.periods b.parties h) q)) e))
-    (cases_lt q b.parties)
+    d ∙ ap (λ o. unless_fault o (payable (in_book b) q)) e ∙ sym (ap (λ o. unless_fault o (payable (after_run (vec_len b.quarters) (vec_len b.parties) h) q)) e))
+    (cases_lt q (vec_len b.parties))
 
 fair : (n m : ℕ) (h : List Event) (e : Event) → Answered (after_run n m h) e → FairlyPaid n m (e ∷ h)
 fair n m h (priced p s r a) d = tt
@@ -239,15 +236,18 @@ pub kept : {h : List Event} {b : Book} → Run h b → Reached h b
 kept (begun b f) = fresh_run b f
 kept (after h e b b' r d) = step h e b b' d (kept r)
 
-same_counts : (e : Event) (b b' : Book) → Changes e b b' → (b'.periods ≡ b.periods) × (b'.parties ≡ b.parties)
-same_counts (priced p m r (Ok x)) b b' c = (c.periods, c.parties)
-same_counts (priced p m r (Err f)) b b' c = (ap (λ (w : Book). w.periods) c, ap (λ (w : Book). w.parties) c)
-same_counts (metered p q v (Ok i)) b b' c = (c.periods, c.parties)
-same_counts (metered p q v (Err f)) b b' c = (ap (λ (w : Book). w.periods) c, ap (λ (w : Book). w.parties) c)
-same_counts (closed p (Ok x)) b b' c = (c.periods, c.parties)
-same_counts (closed p (Err f)) b b' c = (ap (λ (w : Book). w.periods) c, ap (λ (w : Book). w.parties) c)
-same_counts (settled q (Ok x)) b b' c = (c.periods, c.parties)
-same_counts (settled q (Err f)) b b' c = (ap (λ (w : Book). w.periods) c, ap (λ (w : Book). w.parties) c)
+not_moved : (b b' : Book) → b' ≡ b → SameCounts b b'
+not_moved b b' e = (ap (λ (w : Book). vec_len w.quarters) e, ap (λ (w : Book). vec_len w.parties) e)
+
+same_counts : (e : Event) (b b' : Book) → Changes e b b' → SameCounts b b'
+same_counts (priced p m r (Ok x)) b b' c = filed_counts b b' p x c
+same_counts (priced p m r (Err f)) b b' c = not_moved b b' c
+same_counts (metered p q v (Ok i)) b b' c = metered_counts b b' p q i c
+same_counts (metered p q v (Err f)) b b' c = not_moved b b' c
+same_counts (closed p (Ok x)) b b' c = filed_counts b b' p x c
+same_counts (closed p (Err f)) b b' c = not_moved b b' c
+same_counts (settled q (Ok x)) b b' c = paid_counts b b' q _ c
+same_counts (settled q (Err f)) b b' c = not_moved b b' c
 
 at_counts : {n n' m m' : ℕ} (P : ℕ → ℕ → Type 0) → (n' ≡ n) × (m' ≡ m) → P n m → P n' m'
 at_counts {n} {n'} {m} {m'} P s x = subst (λ (w : ℕ). P n' w) (sym s.1) (subst (λ (w : ℕ). P w m) (sym s.0) x)
@@ -265,7 +265,7 @@ sound_after h e b b' d k =
       volumes = s.volumes;
       payments = s.payments;
       answers = rw (n.0, n.1) a;
-      fair = at_counts (λ x y. FairlyPaid x y (e ∷ h)) n (fair b.periods b.parties h e a);
+      fair = at_counts (λ x y. FairlyPaid x y (e ∷ h)) n (fair (vec_len b.quarters) (vec_len b.parties) h e a);
     }
 
 pub whole : (e : Event) (b b' : Book) → Did e b b' → Whole e b b'
@@ -275,3 +275,22 @@ pub fresh_sound : (b : Book) → Fresh b → Sound [] b
 fresh_sound b f =
     let s = fresh_run b f in
     record { standings = s.standings; closings = s.closings; prices = s.prices; bounds = λ p g q e. s.bounds p g e q; volumes = s.volumes; payments = s.payments; answers = tt; fair = tt }
+
+-- AN ANSWER THAT THE BOOK GIVES, BY THE RUN
+
+pub quarter_said : (b : Book) (p : ℕ) (a : Result Quarter BookFault) → a ≡ unless_fault (period_fault (in_book b) p) (quarter_at b p) → (h : List Event) → Run h b → IfOk a (λ x. x ≡ quarter_after h p)
+quarter_said b p (Ok x) e h r = (accepted _ _ x e).1 ∙ (kept r).standings p
+quarter_said b p (Err f) e h r = tt
+
+pub volume_said : (b : Book) (p q : ℕ) (a : Result Imbalance BookFault) → a ≡ unless_fault (place_fault (in_book b) p q) (imbalance_at b p q) → (h : List Event) → Run h b → IfOk a (λ x. x.kwh ≡ volume_after h p q)
+volume_said b p q (Ok x) e h r =
+    let s = accepted (place_fault (in_book b) p q) _ x e in
+    let n = or_none (period_fault (in_book b) p) (party_fault (in_book b) q) s.0 in
+    ap (λ (i : Imbalance). i.kwh) s.1 ∙ (kept r).volumes p q (period_known (in_book b) p n.0) (party_known (in_book b) q n.1)
+volume_said b p q (Err f) e h r = tt
+
+pub payments_said : (b : Book) (q : ℕ) (a : Result Amount BookFault) → a ≡ unless_fault (party_fault (in_book b) q) (paid_to b q) → (h : List Event) → Run h b → IfOk a (λ x. x.cents ≡ payments_since h q)
+payments_said b q (Ok x) e h r =
+    let s = accepted (party_fault (in_book b) q) _ x e in
+    ap (λ (y : Amount). y.cents) s.1 ∙ (kept r).payments q (party_known (in_book b) q s.0)
+payments_said b q (Err f) e h r = tt

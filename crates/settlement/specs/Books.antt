@@ -1,5 +1,5 @@
 -- What a book holds, and what a call changes in it.
-use Rattle.std.specs.Prelude.{◌≡◌, ℕ, ◌+◌, ◌*◌, replicate, Ok, Err, vec_items, Result, slice_index_or, slice_set}
+use Rattle.std.specs.Prelude.{◌≡◌, ℕ, List, [], map, replicate, Ok, Err, vec_items, vec_len, Result, slice_index_or, slice_set}
 use Rattle.metering.specs.Imbalances.{balanced}
 use Rattle.metering.specs.declared.imbalance.Imbalance.{Imbalance}
 use Rattle.units.specs.declared.euros.Amount.{Amount}
@@ -10,47 +10,51 @@ use Rattle.settlement.specs.declared.fault.BookFault.{BookFault}
 use Rattle.settlement.specs.declared.quarter.Quarter.{Quarter}
 use Rattle.settlement.specs.declared.quarter.Quarter.TheVariants.{Blank}
 
+-- each party's imbalances, of a quarter after another
+abbrev pub volumes_in : Book → List (List Imbalance)
+volumes_in b = map (λ party. vec_items party.volumes) (vec_items b.parties)
+
+-- what each party was paid so far
+abbrev pub payments_in : Book → List Amount
+payments_in b = map (λ party. party.paid) (vec_items b.parties)
+
 abbrev pub quarter_at : Book → ℕ → Quarter
 quarter_at b p = slice_index_or (vec_items b.quarters) p Blank
 
+abbrev pub volumes_of : Book → ℕ → List Imbalance
+volumes_of b q = slice_index_or (volumes_in b) q []
+
 abbrev pub imbalance_at : Book → ℕ → ℕ → Imbalance
-imbalance_at b p q = slice_index_or (vec_items b.volumes) (p * b.parties + q) balanced
+imbalance_at b p q = slice_index_or (volumes_of b q) p balanced
 
 abbrev pub paid_to : Book → ℕ → Amount
-paid_to b q = slice_index_or (vec_items b.paid) q nothing
+paid_to b q = slice_index_or (payments_in b) q nothing
 
 abbrev pub in_book : Book → Known
-in_book b = record { periods = b.periods; parties = b.parties; quarter = quarter_at b; volume = λ p q. (imbalance_at b p q).kwh; paid = λ q. (paid_to b q).cents }
+in_book b = record { periods = vec_len b.quarters; parties = vec_len b.parties; quarter = quarter_at b; volume = λ p q. (imbalance_at b p q).kwh; paid = λ q. (paid_to b q).cents }
 
 -- a book as it is started
 pub record Fresh (b : Book) : Type 0 where
-  pub blank : vec_items b.quarters ≡ replicate b.periods Blank
-  pub unmetered : vec_items b.volumes ≡ replicate (b.periods * b.parties) balanced
-  pub unpaid : vec_items b.paid ≡ replicate b.parties nothing
+  pub blank : vec_items b.quarters ≡ replicate (vec_len b.quarters) Blank
+  pub unmetered : volumes_in b ≡ replicate (vec_len b.parties) (replicate (vec_len b.quarters) balanced)
+  pub unpaid : payments_in b ≡ replicate (vec_len b.parties) nothing
 
 -- b' is b, but that the quarter of p is x
 pub record Filed (b b' : Book) (p : ℕ) (x : Quarter) : Type 0 where
   pub quarters : vec_items b'.quarters ≡ slice_set (vec_items b.quarters) p x
-  pub volumes : b'.volumes ≡ b.volumes
-  pub paid : b'.paid ≡ b.paid
-  pub periods : b'.periods ≡ b.periods
   pub parties : b'.parties ≡ b.parties
 
 -- b' is b, but that the imbalance of the party q in p is i
 pub record Metered (b b' : Book) (p q : ℕ) (i : Imbalance) : Type 0 where
   pub quarters : b'.quarters ≡ b.quarters
-  pub volumes : vec_items b'.volumes ≡ slice_set (vec_items b.volumes) (p * b.parties + q) i
-  pub paid : b'.paid ≡ b.paid
-  pub periods : b'.periods ≡ b.periods
-  pub parties : b'.parties ≡ b.parties
+  pub volumes : volumes_in b' ≡ slice_set (volumes_in b) q (slice_set (volumes_of b q) p i)
+  pub paid : payments_in b' ≡ payments_in b
 
 -- b' is b, but that q was paid x in all
 pub record Paid (b b' : Book) (q : ℕ) (x : Amount) : Type 0 where
   pub quarters : b'.quarters ≡ b.quarters
-  pub volumes : b'.volumes ≡ b.volumes
-  pub paid : vec_items b'.paid ≡ slice_set (vec_items b.paid) q x
-  pub periods : b'.periods ≡ b.periods
-  pub parties : b'.parties ≡ b.parties
+  pub volumes : volumes_in b' ≡ volumes_in b
+  pub paid : payments_in b' ≡ slice_set (payments_in b) q x
 
 -- the quarter of p is now as it was answered; a refused call changed nothing
 abbrev pub FiledAs : Book → Book → ℕ → Result Quarter BookFault → Type 0

@@ -1,5 +1,5 @@
 -- Runs of calls over one book, and what is promised of every run.
-use Rattle.std.specs.Prelude.{◌≡◌, ℕ, ◌*◌, ◌<◌, ◌≤◌, ◌&&◌, List, [], ◌∷◌, ℤ, pos, ◌+ℤ◌, ◌-ℤ◌, ◌*ℤ◌, Some, None, Ok, Err, Option, Result, nat_le, unsigned_abs}
+use Rattle.std.specs.Prelude.{◌≡◌, ℕ, ◌*◌, ◌<◌, ◌≤◌, ◌&&◌, List, [], ◌∷◌, ℤ, pos, ◌+ℤ◌, ◌-ℤ◌, ◌*ℤ◌, Some, None, Ok, Err, Option, Result, nat_le, unsigned_abs, vec_len}
 use Rattle.figures.specs.Gathering.{Gives}
 use Rattle.figures.specs.Sides.{side_of}
 use Rattle.figures.specs.declared.quarter_figures.Figures.{Figures}
@@ -140,12 +140,12 @@ pub record Sound (h : List Event) (b : Book) : Type 0 where
   pub prices : (p : ℕ) (f : Filing) → last_pricing h p ≡ Some f → RightPrice f
   -- it lies between the weighted mean and the extreme of the formed prices
   pub bounds : (p : ℕ) (f : Filing) (q : Quote) → last_pricing h p ≡ Some f → f.quarter ≡ Priced q → WithinBounds q.direction f.source q.price.cents
-  pub volumes : (p q : ℕ) → p < b.periods → q < b.parties → (imbalance_at b p q).kwh ≡ volume_after h p q
-  pub payments : (q : ℕ) → q < b.parties → (paid_to b q).cents ≡ payments_since h q
+  pub volumes : (p q : ℕ) → p < vec_len b.quarters → q < vec_len b.parties → (imbalance_at b p q).kwh ≡ volume_after h p q
+  pub payments : (q : ℕ) → q < vec_len b.parties → (paid_to b q).cents ≡ payments_since h q
   -- the last call was accepted or refused as the calls before it say, and answered so
-  pub answers : AnsweredAfter b.periods b.parties h
+  pub answers : AnsweredAfter (vec_len b.quarters) (vec_len b.parties) h
   -- a party that was settled last has what it is due, to half a cent
-  pub fair : FairlyPaid b.periods b.parties h
+  pub fair : FairlyPaid (vec_len b.quarters) (vec_len b.parties) h
 
 -- the call e made b' of b as it says, no other answer was open to it, and whatever calls led to b, the run that ends with
 -- e is sound
@@ -164,8 +164,8 @@ count_fault n m = or_next (unless (nat_le 1 n && nat_le n 100) Periods) (unless 
 -- a book with these counts, from which every run begins
 pub record Begins (n m : ℕ) (b : Book) : Type 0 where
   pub counts : count_fault n m ≡ None
-  pub periods : b.periods ≡ n
-  pub parties : b.parties ≡ m
+  pub periods : vec_len b.quarters ≡ n
+  pub parties : vec_len b.parties ≡ m
   pub fresh : Fresh b
   pub run : Run [] b
   pub sound : Sound [] b

@@ -1,25 +1,18 @@
 // The book itself, and what always holds of it.
-ghost use Rattle.std.specs.Prelude.{◌≡◌, ℕ, ◌*◌, ◌<◌, ◌≤◌, vec_len, unsigned_abs};
-ghost use Rattle.settlement.specs.Payments.{cents_at};
+ghost use Rattle.std.specs.Prelude.{◌≡◌, ◌≤◌, All, vec_items, vec_len};
 
+use crate::party::Party;
 use crate::quarter::Quarter;
-use metering::imbalance::Imbalance;
-use units::euros::Amount;
 
 pub mod calls;
 pub mod questions;
 pub mod start;
 
-/// The settlement of one area and day. A party's imbalance in a period stands at
-/// `period * parties + party`, and what it was paid so far at `party`.
+/// The settlement of one area and day: each party has an imbalance in each quarter.
 #[derive(Drop)]
 pub struct Book {
     quarters: Vec<Quarter>,
-    volumes: Vec<Imbalance>,
-    paid: Vec<Amount>,
-    periods: usize,
-    parties: usize,
-    ghost counts: { (1 ≤ periods) × (periods ≤ 100) × (1 ≤ parties) × (parties ≤ 32) },
-    ghost sizes: { (vec_len quarters ≡ periods) × (vec_len volumes ≡ periods * parties) × (vec_len paid ≡ parties) },
-    ghost payments: { (q : ℕ) → q < parties → unsigned_abs (cents_at paid.items q) ≤ 15_000_000_000_000 },
+    parties: Vec<Party>,
+    ghost counts: { (1 ≤ vec_len quarters) × (vec_len quarters ≤ 100) × (1 ≤ vec_len parties) × (vec_len parties ≤ 32) },
+    ghost metered: { All (λ party. vec_len party.volumes ≡ vec_len quarters) (vec_items parties) },
 }

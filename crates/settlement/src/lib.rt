@@ -3,4 +3,5 @@
 
 pub mod book;
 pub mod fault;
+mod party;
 pub mod quarter;

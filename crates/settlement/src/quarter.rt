@@ -1,6 +1,6 @@
 // How a quarter of the book stands, and the calls that it meets.
 ghost use Rattle.std.specs.Prelude.{◌≡◌};
-ghost use Rattle.settlement.specs.Quarters.{closed_as, quote_in, standing_cents};
+ghost use Rattle.settlement.specs.Quarters.{quote_in, standing_cents};
 
 use pricing::fault::QuoteFault;
 use pricing::quote::Quote;
@@ -20,19 +20,7 @@ impl Quarter {
     {
         match self {
             Quarter::Blank => None,
-            Quarter::Priced(quote) => Some(quote),
-            Quarter::Closed(quote) => Some(quote),
-        }
-    }
-
-    // A priced quarter, closed at its quote.
-    pub(crate) fn closed(self) -> Quarter
-        ensures { result ≡ closed_as self }
-    {
-        match self {
-            Quarter::Blank => Quarter::Blank,
-            Quarter::Priced(quote) => Quarter::Closed(quote),
-            Quarter::Closed(quote) => Quarter::Closed(quote),
+            Quarter::Priced(quote) | Quarter::Closed(quote) => Some(quote),
         }
     }
 
@@ -40,11 +28,7 @@ impl Quarter {
     pub(crate) fn cents(self) -> i64
         ensures { result ≡ standing_cents self }
     {
-        match self {
-            Quarter::Blank => 0,
-            Quarter::Priced(quote) => quote.price.cents(),
-            Quarter::Closed(quote) => quote.price.cents(),
-        }
+        self.quote().map_or(0, |quote| quote.price.cents())
     }
 }
 

@@ -1,10 +1,10 @@
 // The four calls that change a book: pricing, metering, closing and settling.
-ghost use Rattle.std.specs.Prelude.{◌≡◌, ◌*◌, ◌<◌, ◌≤◌, unsigned_abs};
+ghost use Rattle.std.specs.Prelude.{◌≡◌, ◌*◌, ◌<◌, ◌≤◌, unsigned_abs, vec_len};
 ghost use Rattle.metering.specs.Imbalances.{values_of};
 ghost use Rattle.settlement.specs.Books.{FiledAs, in_book, quarter_at};
 ghost use Rattle.settlement.specs.Events.{priced, metered, closed, settled};
 ghost use Rattle.settlement.specs.Known.{worth};
-ghost use Rattle.settlement.specs.Quarters.{filing, meets};
+ghost use Rattle.settlement.specs.Quarters.{meets};
 ghost use Rattle.settlement.specs.Runs.{Whole};
 ghost use Rattle.units.specs.Rounding.{rounded};
 
@@ -13,8 +13,7 @@ use crate::fault::BookFault;
 use crate::quarter::{Call, Quarter};
 use metering::imbalance::Imbalance;
 use metering::meter_values::MeterValues;
-use pricing::fault::QuoteFault;
-use pricing::quote::{Quote, quote_source};
+use pricing::quote::quote_source;
 use pricing::rulebook::Rulebook;
 use source::price_source::PriceSource;
 use units::euros::Amount;
@@ -33,54 +32,36 @@ fn whole_cents(thousandths: i64) -> i64
 }
 
 impl Book {
-    // Files the quote of a source, or refuses with the source's fault beside the period.
-    fn file(
-        &mut self,
-        period: usize,
-        answer: Result<Quote, QuoteFault>,
-    ) -> Result<Quarter, BookFault>
-        requires { period < self.old.periods }
-        ensures answers { result ≡ filing period answer }
-        ensures changes { FiledAs self.old self.new period result }
-    {
-        match answer {
-            Ok(quote) => {
-                self.quarters[period] = Quarter::Priced(quote);
-                Ok(Quarter::Priced(quote))
-            }
-            Err(fault) => Err(BookFault::NoQuote { period, fault }),
-        }
-    }
-
     // The quarter's standing and the call, matched together; the quarter is changed in place.
     fn turn(&mut self, period: usize, call: Call) -> Result<Quarter, BookFault>
-        requires { period < self.old.periods }
+        requires { period < vec_len self.old.quarters }
         ensures answers { result ≡ meets period (quarter_at self.old period) call }
         ensures changes { FiledAs self.old self.new period result }
     {
         match (self.quarters[period], call) {
-            (Quarter::Blank, Call::Price(answer)) => self.file(period, answer),
-            (Quarter::Priced(_), Call::Price(answer)) => self.file(period, answer),
-            (Quarter::Blank, Call::Close) => Err(BookFault::QuarterBlank { period }),
-            (priced @ Quarter::Priced(_), Call::Close) => {
-                let closed = priced.closed();
-                self.quarters[period] = closed;
-                Ok(closed)
-            }
             (Quarter::Closed(_), _) => Err(BookFault::QuarterClosed { period }),
+            (_, Call::Price(Ok(quote))) => {
+                self.quarters[period] = Quarter::Priced(quote);
+                Ok(Quarter::Priced(quote))
+            }
+            (_, Call::Price(Err(fault))) => Err(BookFault::NoQuote { period, fault }),
+            (Quarter::Blank, Call::Close) => Err(BookFault::QuarterBlank { period }),
+            (Quarter::Priced(quote), Call::Close) => {
+                self.quarters[period] = Quarter::Closed(quote);
+                Ok(Quarter::Closed(quote))
+            }
         }
     }
 
     // T: the party's volumes at the standing prices, in thousandths of a cent.
     fn worth(&self, party: usize) -> i64
-        requires { party < self.now.parties }
+        requires { party < vec_len self.now.parties }
         ensures value { result ≡ worth (in_book self.now) party }
         ensures bound { unsigned_abs result ≤ 100 * 149_998_500_000_000 }
     {
         let mut sum = 0;
-        for period in 0..self.periods {
-            let volume = self.volumes[period * self.parties + party];
-            sum += volume.kwh() * self.quarters[period].cents();
+        for (quarter, volume) in self.quarters.iter().zip(self.parties[party].volumes.iter()) {
+            sum += volume.kwh() * quarter.cents();
         }
         sum
     }
@@ -95,7 +76,7 @@ impl Book {
     ) -> Result<Quarter, BookFault>
         ensures { Whole (priced period (S.PriceSource.means source.now) (record { code = R.Rulebook.code; net = R.Rulebook.net; ruling = R.Rulebook.ruling }) result) self.old self.new }
     {
-        if period >= self.periods {
+        if period >= self.quarters.len() {
             return Err(BookFault::PeriodOutOfRange { period });
         }
         let answer = quote_source(source, rulebook);
@@ -112,18 +93,17 @@ impl Book {
     ) -> Result<Imbalance, BookFault>
         ensures { Whole (metered period party (values_of values.now) result) self.old self.new }
     {
-        if period >= self.periods {
+        if period >= self.quarters.len() {
             return Err(BookFault::PeriodOutOfRange { period });
         }
-        if party >= self.parties {
+        if party >= self.parties.len() {
             return Err(BookFault::PartyOutOfRange { party });
         }
         if let Quarter::Closed(_) = self.quarters[period] {
             return Err(BookFault::QuarterClosed { period });
         }
         let imbalance = values.imbalance()?;
-        let place = period * self.parties + party;
-        self.volumes[place] = imbalance;
+        self.parties[party].volumes[period] = imbalance;
         Ok(imbalance)
     }
 
@@ -132,7 +112,7 @@ impl Book {
     pub fn close(&mut self, period: usize) -> Result<Quarter, BookFault>
         ensures { Whole (closed period result) self.old self.new }
     {
-        if period >= self.periods {
+        if period >= self.quarters.len() {
             return Err(BookFault::PeriodOutOfRange { period });
         }
         self.turn(period, Call::Close)
@@ -143,12 +123,12 @@ impl Book {
     pub fn settle(&mut self, party: usize) -> Result<Amount, BookFault>
         ensures { Whole (settled party result) self.old self.new }
     {
-        if party >= self.parties {
+        if party >= self.parties.len() {
             return Err(BookFault::PartyOutOfRange { party });
         }
         let due = whole_cents(self.worth(party));
-        let before = self.paid[party];
-        self.paid[party] = Amount { cents: due };
+        let before = self.parties[party].paid;
+        self.parties[party].paid = Amount { cents: due };
         Ok(Amount {
             cents: due - before.cents,
         })

@@ -18,10 +18,10 @@ impl Book {
         ensures answers { result ≡ unless_fault (period_fault (in_book self.now) period) (quarter_at self.now period) }
         ensures as_the_run_says { (h : List Event) → Run h self.now → IfOk result (λ x. x ≡ quarter_after h period) }
     {
-        if period >= self.periods {
-            return Err(BookFault::PeriodOutOfRange { period });
-        }
-        Ok(self.quarters[period])
+        self.quarters
+            .get(period)
+            .copied()
+            .ok_or(BookFault::PeriodOutOfRange { period })
     }
 
     /// The party's imbalance in the quarter. Refused with 9, then 10.
@@ -29,13 +29,13 @@ impl Book {
         ensures answers { result ≡ unless_fault (place_fault (in_book self.now) period party) (imbalance_at self.now period party) }
         ensures as_the_run_says { (h : List Event) → Run h self.now → IfOk result (λ x. x.kwh ≡ volume_after h period party) }
     {
-        if period >= self.periods {
+        if period >= self.quarters.len() {
             return Err(BookFault::PeriodOutOfRange { period });
         }
-        if party >= self.parties {
+        let Some(found) = self.parties.get(party) else {
             return Err(BookFault::PartyOutOfRange { party });
-        }
-        Ok(self.volumes[period * self.parties + party])
+        };
+        Ok(found.volumes[period])
     }
 
     /// All that the party was paid so far. Refused with 10.
@@ -43,9 +43,9 @@ impl Book {
         ensures answers { result ≡ unless_fault (party_fault (in_book self.now) party) (paid_to self.now party) }
         ensures as_the_run_says { (h : List Event) → Run h self.now → IfOk result (λ x. x.cents ≡ payments_since h party) }
     {
-        if party >= self.parties {
+        let Some(found) = self.parties.get(party) else {
             return Err(BookFault::PartyOutOfRange { party });
-        }
-        Ok(self.paid[party])
+        };
+        Ok(found.paid)
     }
 }

@@ -1,43 +1,43 @@
-use Rattle.std.proofs.Common.{◌≡◌, true, false, Ok, Err, sym, refl, ap, ◌∙◌}
+use Rattle.std.proofs.Common.{◌≡◌, true, false, set, Ok, Err, vec_items, sym, refl, ap, ◌∙◌}
+use Rattle.std.proofs.Math.Seq.{map-set_same}
+use Rattle.std.proofs.lemmas.List.{map-set}
 use Rattle.std.proofs.lemmas.Result.{err_from_is_err_and}
 use Rattle.metering.specs.Imbalances.{values_of}
-use Rattle.settlement.specs.Books.{in_book, quarter_at}
+use Rattle.settlement.specs.Books.{in_book, quarter_at, volumes_in}
 use Rattle.settlement.specs.Events.{metered}
 use Rattle.settlement.specs.Quarters.{is_closed}
 use Rattle.settlement.specs.declared.fault.BookFault.TheVariants.{Metering}
+use Rattle.settlement.specs.declared.party.Party.{Party}
 use Rattle.settlement.proofs.Kept.{whole}
-use Rattle.settlement.proofs.Readings.{place_within, read_quarter}
+use Rattle.settlement.proofs.Readings.{read_quarter, read_volumes}
 use Rattle.settlement.proofs.Steps.{meter_answered, meter_closed, meter_past_party, meter_past_period, not_closed}
 use Rattle.settlement.proofs.book.Book.meter.Goals as goal
 
-pub returns-then-period-self : goal.returns-then-period-self
-returns-then-period-self c =
-    whole _ _ _ (record { lawful = tt; answered = meter_past_period (in_book c.args.self.now) c.args.period c.args.party (values_of c.args.values.now) c.if-period-self.true; changes = refl })
+pub returns-then-period-len : goal.returns-then-period-len
+returns-then-period-len c =
+    whole _ _ _ (record { lawful = tt; answered = meter_past_period (in_book c.args.self.now) c.args.period c.args.party (values_of c.args.values.now) (rw c.len.ensures at c.if-period-len.true); changes = refl })
 
-pub returns-then-party-self : goal.returns-then-party-self
-returns-then-party-self c =
-    whole _ _ _ (record { lawful = tt; answered = meter_past_party (in_book c.args.self.now) c.args.period c.args.party (values_of c.args.values.now) c.if-period-self.false c.if-party-self.true; changes = refl })
+pub returns-then-party-len : goal.returns-then-party-len
+returns-then-party-len c =
+    whole _ _ _ (record { lawful = tt; answered = meter_past_party (in_book c.args.self.now) c.args.period c.args.party (values_of c.args.values.now) (rw c.len.ensures at c.if-period-len.false) (rw c.len-2.ensures at c.if-party-len.true); changes = refl })
 
 pub returns-in-Closed : goal.returns-in-Closed
 returns-in-Closed c =
     let b = c.args.self.now in
     let p = c.args.period in
-    let e = read_quarter b p c.index.result.now c.if-period-self.false c.index.ensures in
+    let e = read_quarter b p c.index.result.now (rw c.len.ensures at c.if-period-len.false) c.index.ensures in
     let s : is_closed (quarter_at b p) ≡ true = ap is_closed (sym e ∙ c.in-Closed.is) in
-    whole _ _ _ (record { lawful = tt; answered = meter_closed (in_book b) p c.args.party (values_of c.args.values.now) c.if-period-self.false c.if-party-self.false s; changes = refl })
+    whole _ _ _ (record { lawful = tt; answered = meter_closed (in_book b) p c.args.party (values_of c.args.values.now) (rw c.len.ensures at c.if-period-len.false) (rw c.len-2.ensures at c.if-party-len.false) s; changes = refl })
 
 pub returns-in_err-imbalance : goal.returns-in_err-imbalance
 returns-in_err-imbalance c =
     let b = c.args.self.now in
     let p = c.args.period in
-    let e = read_quarter b p c.index.result.now c.if-period-self.false c.index.ensures in
+    let e = read_quarter b p c.index.result.now (rw c.len.ensures at c.if-period-len.false) c.index.ensures in
     let s : is_closed (quarter_at b p) ≡ false = ap is_closed (sym e) ∙ not_closed c.index.result.now c.in_default.not-Closed in
     let w = err_from_is_err_and c.from_residual.result c.from_residual.ensures.1 in
     let f = c.in_err-imbalance.field-0.0 in
-    rw (w.1, w.2) (whole _ _ _ (record { lawful = tt; answered = meter_answered (in_book b) p c.args.party (values_of c.args.values.now) (Err f) (Err (Metering f)) c.if-period-self.false c.if-party-self.false s c.in_err-imbalance.ensures refl; changes = refl }))
-
-pub index_mut-requires : goal.index_mut-requires
-index_mut-requires c = place_within c.args.self.now c.args.period c.args.party c.if-period-self.false c.if-party-self.false
+    rw (w.1, w.2) (whole _ _ _ (record { lawful = tt; answered = meter_answered (in_book b) p c.args.party (values_of c.args.values.now) (Err f) (Err (Metering f)) (rw c.len.ensures at c.if-period-len.false) (rw c.len-2.ensures at c.if-party-len.false) s c.in_err-imbalance.ensures refl; changes = refl }))
 
 pub returns : goal.returns
 returns c =
@@ -46,10 +46,14 @@ returns c =
     let q = c.args.party in
     let i = c.in_ok-imbalance.imbalance in
     let v = values_of c.args.values.now in
-    let e = read_quarter b p c.index.result.now c.if-period-self.false c.index.ensures in
+    let e = read_quarter b p c.index.result.now (rw c.len.ensures at c.if-period-len.false) c.index.ensures in
     let s : is_closed (quarter_at b p) ≡ false = ap is_closed (sym e) ∙ not_closed c.index.result.now c.in_default.not-Closed in
     whole (metered p q v (Ok i)) b _ (record {
       lawful = tt;
-      answered = meter_answered (in_book b) p q v (Ok i) (Ok i) c.if-period-self.false c.if-party-self.false s c.in_ok-imbalance.ensures refl;
-      changes = record { quarters = refl; volumes = refl; paid = refl; periods = refl; parties = refl };
+      answered = meter_answered (in_book b) p q v (Ok i) (Ok i) (rw c.len.ensures at c.if-period-len.false) (rw c.len-2.ensures at c.if-party-len.false) s c.in_ok-imbalance.ensures refl;
+      changes = record {
+        quarters = refl;
+        volumes = map-set (λ (p : Party). vec_items p.volumes) (vec_items b.parties) q _ ∙ ap (λ row. set (volumes_in b) q (set row p i)) (read_volumes b q c.index_mut.result.now (rw c.len-2.ensures at c.if-party-len.false) c.index_mut.ensures.value);
+        paid = map-set_same (λ (p : Party). p.paid) (vec_items b.parties) q _ c.index_mut.result.now (ap (λ (p : Party). p.paid) c.index_mut.ensures.value);
+      };
     })

@@ -1,18 +1,12 @@
-use Rattle.std.proofs.Common.{Ok, sym, ap, ◌∙◌}
+use Rattle.std.proofs.Common.{arith, ◌≡◌, Ok}
+use Rattle.std.proofs.lemmas.Grind.{common_steps}
 use Rattle.metering.specs.Imbalances.{unless_fault}
-use Rattle.units.specs.declared.euros.Amount.{Amount}
 use Rattle.settlement.specs.Books.{in_book, paid_to}
-use Rattle.settlement.proofs.Checks.{party_within}
-use Rattle.settlement.proofs.Kept.{kept}
-use Rattle.settlement.proofs.Readings.{read_paid}
+use Rattle.settlement.specs.Known.{party_fault}
+use Rattle.settlement.proofs.Kept.{payments_said}
 use Rattle.settlement.proofs.book.Book.payments.Goals as goal
 
 pub returns : goal.returns
 returns c =
-    let b = c.args.self.now in
-    let q = c.args.party in
-    let e = read_paid b q c.index.result.now c.if-party-self.false c.index.ensures in
-    record {
-      answers = ap Ok e ∙ ap (λ o. unless_fault o (paid_to b q)) (sym (party_within (in_book b) q c.if-party-self.false));
-      as_the_run_says = λ h r. ap (λ (x : Amount). x.cents) e ∙ (kept r).payments q c.if-party-self.false;
-    }
+    let e : Ok c.in-Some.found.now.paid ≡ unless_fault (party_fault (in_book c.args.self.now) c.args.party) (paid_to c.args.self.now c.args.party) = grind (arith, common_steps) in
+    record { answers = e; as_the_run_says = payments_said c.args.self.now c.args.party _ e }

@@ -13,9 +13,9 @@ rules g = record { code = g.R.Rulebook.code; net = g.R.Rulebook.net; ruling = g.
 lawful : (g : given.Over) → Lawful (rules g)
 lawful g f = record { direction = g.met.R.Rulebook.direction f; counting = g.met.R.Rulebook.counting f; formed = g.met.R.Rulebook.formed f; mean = g.met.R.Rulebook.mean f }
 
-pub returns-then-period-self : goal.returns-then-period-self
-returns-then-period-self g c =
-    whole _ _ _ (record { lawful = lawful g; answered = price_past (in_book c.args.self.now) c.args.period (g.S.PriceSource.means c.args.source.now) (rules g) c.if-period-self.true; changes = refl })
+pub returns-then-period-len : goal.returns-then-period-len
+returns-then-period-len g c =
+    whole _ _ _ (record { lawful = lawful g; answered = price_past (in_book c.args.self.now) c.args.period (g.S.PriceSource.means c.args.source.now) (rules g) (rw c.len.ensures at c.if-period-len.true); changes = refl })
 
 pub returns : goal.returns
 returns g c =
@@ -23,6 +23,6 @@ returns g c =
     whole (priced c.args.period m (rules g) c.turn.result) c.args.self.now c.turn.new.self
     (record {
       lawful = lawful g;
-      answered = price_answered (in_book c.args.self.now) c.args.period m (rules g) c.turn.result c.quote_source-answer.result c.if-period-self.false c.quote_source-answer.ensures.value c.turn.ensures.answers;
+      answered = price_answered (in_book c.args.self.now) c.args.period m (rules g) c.turn.result c.quote_source-answer.result (rw c.len.ensures at c.if-period-len.false) c.quote_source-answer.ensures.value c.turn.ensures.answers;
       changes = c.turn.ensures.changes;
     })

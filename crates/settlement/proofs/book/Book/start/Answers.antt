@@ -1,34 +1,32 @@
-use Rattle.std.proofs.Common.{◌≡◌, ℕ, ◌*◌, ◌≤◌, ◌&&◌, leb, List, replicate, nat_abs, None, sym, refl, ap, ◌∙◌, subst, arith}
+use Rattle.std.proofs.Common.{◌≡◌, ℕ, ◌≤◌, ◌&&◌, leb, replicate, None, vec_len, sym, refl, ap, ◌∙◌, rules}
 use Rattle.std.proofs.lemmas.Bool.{and_from, le-leb}
-use Rattle.metering.specs.Imbalances.{or_next, unless}
-use Rattle.units.specs.declared.euros.Amount.{Amount}
+use Rattle.std.proofs.lemmas.Result.{err_from_is_err_and}
+use Rattle.metering.specs.Imbalances.{balanced, or_next, unless}
 use Rattle.settlement.specs.Books.{Fresh}
-use Rattle.settlement.specs.Payments.{cents_at, nothing}
+use Rattle.settlement.specs.Payments.{nothing}
 use Rattle.settlement.specs.Runs.{begun, count_fault}
 use Rattle.settlement.specs.declared.fault.CountFault.TheVariants.{Periods, Parties}
-use Rattle.settlement.proofs.Kept.{all_same, fresh_sound}
+use Rattle.settlement.specs.declared.quarter.Quarter.TheVariants.{Blank}
+use Rattle.settlement.proofs.Kept.{fresh_sound}
 use Rattle.settlement.proofs.book.Book.start.Goals as goal
-
-unpaid : (xs : List Amount) (n q m : ℕ) → xs ≡ replicate n nothing → nat_abs (cents_at xs q) ≤ m
-unpaid xs n q m e = rw e (subst (λ (x : Amount). nat_abs x.cents ≤ m) (sym (all_same n q nothing)) (omega arith))
-
-pub invariant_of-result : goal.invariant_of-result
-invariant_of-result c = record {
-  counts = (omega arith, omega arith, omega arith, omega arith);
-  sizes = (c.in_ok-quarters.ensures.len, c.in_ok-volumes.ensures.len, c.in_ok-paid.ensures.len);
-  payments = λ q l. unpaid _ c.args.parties q 15_000_000_000_000 (c.in_ok-paid.ensures.items_if_clones_equal (λ y h. h));
-}
 
 counts : (n m : ℕ) → 1 ≤ n → n ≤ 100 → 1 ≤ m → m ≤ 32 → count_fault n m ≡ None
 counts n m a b d e =
     ap (λ t. or_next (unless t Periods) (unless (leb 1 m && leb m 32) Parties)) (and_from _ _ (le-leb 1 n a) (le-leb n 100 b))
     ∙ ap (λ t. unless t Parties) (and_from _ _ (le-leb 1 m d) (le-leb m 32 e))
 
+pub returns-in_err-blank_parties : goal.returns-in_err-blank_parties
+returns-in_err-blank_parties c =
+    let w = err_from_is_err_and c.from_residual-in_err-blank_parties.result c.from_residual-in_err-blank_parties.ensures.1 in
+    rw (w.1, w.2) (counts c.args.periods c.args.parties (search rules) (search rules) (search rules) (search rules))
+
 pub returns : goal.returns
 returns c =
-    let f : Fresh _ = record {
-      blank = c.in_ok-quarters.ensures.items_if_clones_equal (λ y h. h);
-      unmetered = c.in_ok-volumes.ensures.items_if_clones_equal (λ y h. h) ∙ ap (replicate (c.args.periods * c.args.parties)) c.zero.ensures;
-      unpaid = c.in_ok-paid.ensures.items_if_clones_equal (λ y h. h);
+    let v = c.in_ok-vec in
+    let ps = c.in_ok-blank_parties in
+    let f : Fresh (record { quarters = v.field-0; parties = ps.field-0; counts = _; metered = _ }) = record {
+      blank = v.ensures.items_if_clones_equal (λ y h. h) ∙ ap (λ n. replicate n Blank) (sym v.ensures.len);
+      unmetered = ps.ensures.volumes ∙ ap (λ n. replicate n (replicate c.args.periods balanced)) (sym ps.ensures.count) ∙ ap (λ n. replicate (vec_len ps.field-0) (replicate n balanced)) (sym v.ensures.len);
+      unpaid = ps.ensures.paid ∙ ap (λ n. replicate n nothing) (sym ps.ensures.count);
     } in
-    record { counts = counts c.args.periods c.args.parties (omega arith) (omega arith) (omega arith) (omega arith); periods = refl; parties = refl; fresh = f; run = begun _ f; sound = fresh_sound _ f }
+    record { counts = counts c.args.periods c.args.parties (search rules) (search rules) (search rules) (search rules); periods = v.ensures.len; parties = ps.ensures.count; fresh = f; run = begun _ f; sound = fresh_sound _ f }

@@ -1,41 +1,29 @@
-use Rattle.std.proofs.Common.{◌≡◌, ◌*◌, ◌≤◌, ℤ, ◌+ℤ◌, ◌*ℤ◌, nat_abs, sym, ap, ◌∙◌, arith, w64, SFits}
+use Rattle.std.proofs.Common.{◌≡◌, ℕ, ◌*◌, ◌<◌, ◌≤◌, length, get_or, vec_items, ℤ, ◌+ℤ◌, ◌*ℤ◌, nat_abs, sym, refl, ap, ◌∙◌, arith, w64, SFits}
 use borrow.Author.Differences.{ints}
+use Rattle.std.specs.Iterator.Adapters.{zip_first, zip_second}
+use Rattle.std.specs.Slice.Iter.{iter_rest}
 use Rattle.std.proofs.lemmas.Int.{to_z-of_z}
+use Rattle.std.proofs.lemmas.List.{length_push}
+use Rattle.std.proofs.lemmas.Slice.Zip.{zip_end, zip_turn}
+use Rattle.metering.specs.Imbalances.{balanced}
 use Rattle.metering.specs.declared.imbalance.Imbalance.{Imbalance}
-use Rattle.settlement.specs.Books.{imbalance_at, quarter_at}
+use Rattle.settlement.specs.Books.{imbalance_at, quarter_at, volumes_of}
 use Rattle.settlement.specs.Quarters.{standing_cents}
 use Rattle.settlement.specs.declared.quarter.Quarter.{Quarter}
-use Rattle.settlement.proofs.Readings.{place_within, read_quarter, read_volume}
+use Rattle.settlement.specs.declared.quarter.Quarter.TheVariants.{Blank}
+use Rattle.settlement.proofs.Readings.{read_volumes, volumes_long}
 use Rattle.settlement.proofs.Sums.{cents_small, sum_fits, sum_more, sum_small, term_small}
 use Rattle.settlement.proofs.book.Book.worth.Goals as goal
-
-pub index-volume-requires : goal.index-volume-requires
-index-volume-requires c = place_within c.args.self.now c.loop-period.period c.args.party c.loop-period-test.true c.requires
 
 -- volume times price, as it is read
 abbrev term : goal.After-cents → ℤ
 term c = c.kwh.result *ℤ c.cents.result
 
-term_is : (c : goal.After-cents) → term c ≡ (imbalance_at c.args.self.now c.loop-period.period c.args.party).kwh *ℤ standing_cents (quarter_at c.args.self.now c.loop-period.period)
-term_is c =
-    let v = c.kwh.ensures ∙ ap (λ (i : Imbalance). i.kwh) (read_volume c.args.self.now c.loop-period.period c.args.party c.index-volume.result.now c.loop-period-test.true c.requires c.index-volume.ensures) in
-    let x = c.cents.ensures ∙ ap standing_cents (read_quarter c.args.self.now c.loop-period.period c.index.result.now c.loop-period-test.true c.index.ensures) in
-    ap (λ (z : ℤ). z *ℤ c.cents.result) v ∙ ap (λ (z : ℤ). (imbalance_at c.args.self.now c.loop-period.period c.args.party).kwh *ℤ z) x
-
 small : (c : goal.After-cents) → nat_abs (term c) ≤ 149_998_500_000_000
-small c =
-    let i : Imbalance = imbalance_at c.args.self.now c.loop-period.period c.args.party in
-    let x : Quarter = quarter_at c.args.self.now c.loop-period.period in
-    rw (term_is c) (term_small i.kwh (standing_cents x) i.bounded (cents_small x))
-
-sum_so_far : (c : goal.After-cents) → nat_abs c.loop-period.sum ≤ c.loop-period.period * 149_998_500_000_000
-sum_so_far c = simp c.loop-period.sum-is at c.loop-period.invariant.1
+small c = rw (c.kwh.ensures, c.cents.ensures) (term_small c.in-Some.volume.now.kwh (standing_cents c.in-Some.quarter.now) c.in-Some.volume.now.bounded (cents_small c.in-Some.quarter.now))
 
 fits_term : (c : goal.After-cents) → SFits w64 (term c)
 fits_term c = omega (arith, ints, small c)
-
-fits_sum : (c : goal.After-cents) → SFits w64 (c.loop-period.sum +ℤ term c)
-fits_sum c = sum_fits c.loop-period.sum (term c) c.loop-period.period (sum_so_far c) (omega arith) (small c)
 
 pub overflow_mul-sum : goal.overflow_mul-sum
 overflow_mul-sum c =
@@ -43,21 +31,47 @@ overflow_mul-sum c =
     let fx : SFits w64 c.cents.result = record { sfits = c.cents.type_inv } in
     simp to_z-of_z (fits_term c)
 
+abbrev so_far : goal.After-cents → ℕ
+so_far c = length c.loop-quarter.yielded
+
+-- this turn's quarter and volume stand at the number of turns so far
+turn : (c : goal.After-cents) → (so_far c < length (vec_items c.args.self.now.quarters)) × (c.in-Some.quarter.now ≡ quarter_at c.args.self.now (so_far c)) × (c.in-Some.volume.now ≡ imbalance_at c.args.self.now (so_far c) c.args.party)
+turn c =
+    let b = c.args.self.now in
+    let first : iter_rest (zip_first c.into_iter-quarter-iterator.result) ≡ vec_items b.quarters = rw (c.into_iter-quarter-iterator.ensures.into_iter_gives, c.zip-quarter-items.ensures.first, c.iter.ensures.rest) c.deref.ensures.value in
+    let second : iter_rest (zip_second c.into_iter-quarter-iterator.result) ≡ volumes_of b c.args.party = rw (c.into_iter-quarter-iterator.ensures.into_iter_gives, c.zip-quarter-items.ensures.second, c.iter-2.ensures.rest) (c.deref-2.ensures.value ∙ read_volumes b c.args.party c.index.result.now c.requires c.index.ensures) in
+    let t = zip_turn _ _ c.loop-quarter.yielded c.into_iter-quarter-iterator.result c.loop-quarter.quarter-iterator c.next.new.self _ first second c.loop-quarter.yielded_by _ c.in-Some.is c.next.ensures.steps in
+    (t.0, t.2 Blank, t.3 balanced)
+
+term_is : (c : goal.After-cents) → term c ≡ (imbalance_at c.args.self.now (so_far c) c.args.party).kwh *ℤ standing_cents (quarter_at c.args.self.now (so_far c))
+term_is c =
+    let t = turn c in
+    rw (c.kwh.ensures, c.cents.ensures, t.1, t.2) refl
+
+sum_so_far : (c : goal.After-cents) → nat_abs c.loop-quarter.sum ≤ so_far c * 149_998_500_000_000
+sum_so_far c = simp c.loop-quarter.sum-is at c.loop-quarter.invariant.4
+
+fits_sum : (c : goal.After-cents) → SFits w64 (c.loop-quarter.sum +ℤ term c)
+fits_sum c = sum_fits c.loop-quarter.sum (term c) (so_far c) (sum_so_far c) (omega (arith, (turn c).0, c.args.self.now.quarters.ok.0, c.args.self.now.counts.1)) (small c)
+
 pub overflow_add-sum : goal.overflow_add-sum
 overflow_add-sum c =
     let fv : SFits w64 c.kwh.result = record { sfits = c.kwh.type_inv } in
     let fx : SFits w64 c.cents.result = record { sfits = c.cents.type_inv } in
     let ft = fits_term c in
-    simp (to_z-of_z, c.loop-period.sum-is) (fits_sum c)
+    simp (to_z-of_z, c.loop-quarter.sum-is) (fits_sum c)
 
-pub loop-period-preserved : goal.loop-period-preserved
-loop-period-preserved c =
+pub loop-quarter-preserved : goal.loop-quarter-preserved
+loop-quarter-preserved c =
     let fv : SFits w64 c.kwh.result = record { sfits = c.kwh.type_inv } in
     let fx : SFits w64 c.cents.result = record { sfits = c.cents.type_inv } in
     let ft = fits_term c in
     let fs = fits_sum c in (
-      simp (to_z-of_z, c.loop-period.sum-is) (sum_more c.loop-period.sum (term c) c.loop-period.period
+      (tt, tt),
+      tt,
+      omega (arith, length_push c.loop-quarter.yielded (c.in-Some.quarter, c.in-Some.volume), (turn c).0, c.args.self.now.quarters.ok.0),
+      rw (length_push c.loop-quarter.yielded (c.in-Some.quarter, c.in-Some.volume)) (simp (to_z-of_z, c.loop-quarter.sum-is) (sum_more c.loop-quarter.sum (term c) (so_far c)
           (λ p. (imbalance_at c.args.self.now p c.args.party).kwh *ℤ standing_cents (quarter_at c.args.self.now p))
-          (sym c.loop-period.sum-is ∙ c.loop-period.invariant.0) (term_is c)),
-      simp (to_z-of_z, c.loop-period.sum-is) (sum_small c.loop-period.sum (term c) c.loop-period.period (sum_so_far c) (small c)),
+          (sym c.loop-quarter.sum-is ∙ c.loop-quarter.invariant.3) (term_is c))),
+      rw (length_push c.loop-quarter.yielded (c.in-Some.quarter, c.in-Some.volume)) (simp (to_z-of_z, c.loop-quarter.sum-is) (sum_small c.loop-quarter.sum (term c) (so_far c) (sum_so_far c) (small c))),
     )
