@@ -12,6 +12,7 @@ use settlement::book::Book;
 use settlement::fault::StartFault;
 use sheet::sheet::Sheet;
 use std::alloc::Global;
+use units::refusal::Refusal;
 
 // The part of the bytes between two places, or nothing where there is no such part.
 fn part<'a>(bytes: &'a [u8], start: usize, end: usize) -> &'a [u8] {

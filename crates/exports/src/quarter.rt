@@ -10,6 +10,7 @@ use pricing::quote::{Quote, QuoteDirection, quote_figures};
 use pricing::rulebook::Rulebook;
 use pricing::rulebooks::{CombinedAll, CombinedAutomatic, Finnish, MaxMin, WeightedAverage};
 use sheet::sheet::Sheet;
+use units::refusal::Refusal;
 
 fn side_of(direction: QuoteDirection) -> u16
     ensures { result ≡ side direction }
@@ -21,13 +22,13 @@ fn side_of(direction: QuoteDirection) -> u16
     }
 }
 
-fn refused_as(refusal: u16, place: usize) -> PlainQuote
-    ensures { result ≡ refused_as refusal place }
+fn refused_as<F: Refusal>(fault: F) -> PlainQuote
+    ensures { result ≡ refused_as (F.number fault) (F.place fault) }
 {
     PlainQuote {
-        refusal,
+        refusal: fault.number(),
         direction: 0,
-        place,
+        place: fault.place(),
         cents: 0,
     }
 }
@@ -43,7 +44,7 @@ impl From<Result<Quote, QuoteFault>> for PlainQuote {
                 place: 0,
                 cents: quote.price.cents(),
             },
-            Err(fault) => refused_as(fault.number(), fault.place()),
+            Err(fault) => refused_as(fault),
         }
     }
 }
@@ -85,10 +86,10 @@ pub extern "C" fn fumeliosa_quarter(bytes: &[u8]) -> PlainQuarter
 {
     let sheet = Sheet::read(bytes);
     if let Err(fault) = sheet.check() {
-        return every_code(refused_as(fault.number(), fault.place()));
+        return every_code(refused_as(fault));
     }
     match figures_of(&sheet) {
         Ok(figures) => plain_figures(&figures),
-        Err(unreported) => every_code(refused_as(unreported.number(), unreported.place())),
+        Err(unreported) => every_code(refused_as(unreported)),
     }
 }

@@ -5,6 +5,7 @@ use settlement::fault::BookFault;
 use settlement::quarter::Quarter;
 use std::fmt;
 use units::euros::Amount;
+use units::refusal::Refusal;
 
 #[derive(Clone, Copy)]
 pub(crate) enum Step {

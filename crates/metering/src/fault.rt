@@ -1,6 +1,7 @@
 // Why meter values give no imbalance.
-ghost use Rattle.std.specs.Prelude.{◌≡◌};
 ghost use Rattle.metering.specs.Refusals.{metering_number, metering_place};
+
+use units::refusal::Refusal;
 
 #[derive(Clone, Copy, PartialEq, Eq, Debug)]
 pub enum MeteringFault {
@@ -16,16 +17,16 @@ pub enum MeteringFault {
     Adjustment,
 }
 
-impl MeteringFault {
-    pub fn number(self) -> u16
-        ensures { result ≡ metering_number self }
-    {
+impl Refusal for MeteringFault {
+    ghost number = { metering_number };
+
+    ghost place = { metering_place };
+
+    fn number(self) -> u16 {
         13
     }
 
-    pub fn place(self) -> usize
-        ensures { result ≡ metering_place self }
-    {
+    fn place(self) -> usize {
         match self {
             MeteringFault::TooManySchedules => 32,
             MeteringFault::Schedule { index } => index,

@@ -14,7 +14,7 @@ fn main(rt: HostRuntime) -> io::Result<ExitCode> {
     rt.stdin().read_to_end(&mut bytes)?;
     let sheet = Sheet::read(bytes.as_slice());
     if let Err(fault) = sheet.check() {
-        rt.eprint(QuarterLines::Refused(fault))?;
+        rt.eprint(QuarterLines { answer: Err(fault) })?;
         return Ok(ExitCode::FAILURE);
     }
     let filled = sheet_vec(rt.alloc(), &NettingFill { below: sheet })?;

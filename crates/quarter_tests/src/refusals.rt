@@ -3,6 +3,7 @@ use crate::bytes::Bytes;
 use sheet::sheet::Sheet;
 use source::price_source::PriceSource;
 use std::test::Fail;
+use units::refusal::Refusal;
 
 #[test]
 fn stored_numbers(rt: HostRuntime) -> Result<(), Fail> {

@@ -7,7 +7,7 @@ ghost use Rattle.pricing.specs.Lawful.{follows, heeds, mean_lawful, from_formed,
 
 use figures::quarter_figures::Figures;
 use pricing::rulebook::Rulebook;
-use pricing::ruling::{Net, Ruling};
+use pricing::ruling::{Net, Priced, Ruling};
 use source::direction::Direction;
 
 #[derive(Clone, Copy)]
@@ -18,9 +18,9 @@ impl Rulebook for ZoneAverage {
 
     const NET: Net = Net::Zone;
 
-    ghost code = { 31 };
+    ghost CODE = { 31 };
 
-    ghost net = { Zone };
+    ghost NET = { Zone };
 
     ghost ruling = { λ f. by_zone mean_price f };
 
@@ -32,23 +32,13 @@ impl Rulebook for ZoneAverage {
 
     ghost mean = { λ f. beyond_mean mean_price mean_lawful f.zone_net.kw f };
 
-    fn number() -> u16 {
-        Self::CODE
-    }
-
-    fn deciding_net() -> Net {
-        Self::NET
-    }
-
     fn decide(&self, figures: &Figures) -> Ruling {
         let direction = match figures.zone_net.kw() {
             1.. => Direction::Up,
-            0 => return Ruling::Avoided,
+            0 => return None,
             _ => Direction::Down,
         };
-        match figures.weighted_mean(direction) {
-            Some(price) => Ruling::Priced { direction, price },
-            None => Ruling::Avoided,
-        }
+        let price = figures.weighted_mean(direction)?;
+        Some(Priced { direction, price })
     }
 }

@@ -34,15 +34,6 @@ impl Both {
     }
 }
 
-impl From<QuoteFault> for Numbered {
-    fn from(fault: QuoteFault) -> Numbered {
-        Numbered {
-            number: fault.number(),
-            place: fault.place(),
-        }
-    }
-}
-
 // What is printed of one rulebook.
 #[derive(Clone, Copy)]
 struct Line {
@@ -76,7 +67,7 @@ fn rival_lines(heap: Global, told: &Told) -> Result<String, AllocError> {
 fn same_place(sheet: &Sheet<'_>, quarter: &Quarter) -> bool {
     let own = quote_of(quarter, Rules::Finnish).err();
     let fault = quote_source(sheet, &Finnish).err();
-    own.map(Numbered::from) == fault.map(Numbered::from)
+    own.map(Numbered::from) == fault.map(Numbered::of)
 }
 
 // Whether what a sheet tells is the same, as it is and under the netting fill: both are written and compared.

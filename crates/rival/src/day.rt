@@ -35,20 +35,11 @@ pub(crate) struct Metered {
     pub adjustment: i64,
 }
 
-impl From<BookFault> for Numbered {
-    fn from(fault: BookFault) -> Numbered {
-        Numbered {
-            number: fault.number(),
-            place: fault.place(),
-        }
-    }
-}
-
 impl Replies {
     fn new(rival: Result<i64, Fault>, library: Result<Option<i64>, BookFault>) -> Replies {
         Replies {
             rival: rival.map(Some).map_err(Numbered::from),
-            library: library.map_err(Numbered::from),
+            library: library.map_err(Numbered::of),
         }
     }
 

@@ -44,6 +44,16 @@ pub(crate) struct Numbered {
     pub place: usize,
 }
 
+impl Numbered {
+    /// What a refusal of the library says of itself.
+    pub(crate) fn of<F: units::refusal::Refusal>(fault: F) -> Numbered {
+        Numbered {
+            number: fault.number(),
+            place: fault.place(),
+        }
+    }
+}
+
 impl From<Fault> for Numbered {
     fn from(fault: Fault) -> Numbered {
         Numbered {

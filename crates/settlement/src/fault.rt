@@ -7,6 +7,7 @@ ghost use Rattle.settlement.specs.declared.fault.StartFault.TheVariants.{Memory}
 use metering::fault::MeteringFault;
 use pricing::fault::QuoteFault;
 use std::alloc::AllocError;
+use units::refusal::Refusal;
 
 #[derive(Clone, Copy, Debug)]
 pub enum BookFault {
@@ -24,10 +25,12 @@ pub enum BookFault {
     NoQuote { period: usize, fault: QuoteFault },
 }
 
-impl BookFault {
-    pub fn number(self) -> u16
-        ensures { result ≡ book_number self }
-    {
+impl Refusal for BookFault {
+    ghost number = { book_number };
+
+    ghost place = { book_place };
+
+    fn number(self) -> u16 {
         match self {
             BookFault::PeriodOutOfRange { .. } => 9,
             BookFault::PartyOutOfRange { .. } => 10,
@@ -38,9 +41,7 @@ impl BookFault {
         }
     }
 
-    pub fn place(self) -> usize
-        ensures { result ≡ book_place self }
-    {
+    fn place(self) -> usize {
         match self {
             BookFault::PeriodOutOfRange { period } => period,
             BookFault::PartyOutOfRange { party } => party,
@@ -67,16 +68,16 @@ pub enum CountFault {
     Parties,
 }
 
-impl CountFault {
-    pub fn number(self) -> u16
-        ensures { result ≡ count_number self }
-    {
+impl Refusal for CountFault {
+    ghost number = { count_number };
+
+    ghost place = { count_place };
+
+    fn number(self) -> u16 {
         14
     }
 
-    pub fn place(self) -> usize
-        ensures { result ≡ count_place self }
-    {
+    fn place(self) -> usize {
         match self {
             CountFault::Periods => 0,
             CountFault::Parties => 1,

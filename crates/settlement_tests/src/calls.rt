@@ -8,6 +8,7 @@ use settlement::quarter::Quarter;
 use source::table::{Row, Table};
 use units::price::Price;
 use units::quantity::Quantity;
+use units::refusal::Refusal;
 use units::zone_net::ZoneNet;
 
 /// Prices a quarter of so many idle slots at the avoided value, where there is one.

@@ -6,6 +6,7 @@ use settlement::fault::{CountFault, StartFault};
 use settlement::quarter::Quarter;
 use std::alloc::Global;
 use std::test::Fail;
+use units::refusal::Refusal;
 
 fn not_started(heap: Global, periods: usize, parties: usize, count: CountFault) -> bool {
     let started = Book::start(heap, periods, parties);

@@ -2,7 +2,7 @@
 ghost use Rattle.std.specs.Prelude.{◌≡◌, ℕ};
 
 /// A refusal, told by its number and its place.
-pub trait Refusal {
+pub trait Refusal: Copy {
     ghost number: { Self → ℕ };
 
     ghost place: { Self → ℕ };

@@ -1,13 +1,13 @@
 // Bounds, tables and the netting fill.
 use source::netting_fill::NettingFill;
 use source::price_source::PriceSource;
-use source::slot::Slot;
 use source::table::{Row, Table};
 use std::test::Fail;
 use units::bounds::OutOfBounds;
 use units::demand::Demand;
 use units::price::Price;
 use units::quantity::Quantity;
+use units::refusal::Refusal;
 use units::zone_net::ZoneNet;
 
 pub(crate) const IDLE: Row = Row {
@@ -41,7 +41,7 @@ fn rows(rt: HostRuntime) {
         up: Some(9_999_900),
         down: Some(-9_999_900),
     };
-    assert!(rt; matches!(widest.slot(), Slot::Reported(_)));
+    assert!(rt; matches!(widest.slot(), Some(_)));
     let beyond = [
         Row {
             demand: -10_000_001,
@@ -62,7 +62,7 @@ fn rows(rt: HostRuntime) {
         },
     ];
     for row in beyond {
-        assert!(rt; matches!(row.slot(), Slot::Unreported));
+        assert!(rt; matches!(row.slot(), None));
     }
 }
 
@@ -76,7 +76,7 @@ fn table(rows: &[Row], avoided: Option<Price>) -> Table<'_> {
 
 fn up_cents_at<S: PriceSource>(source: &S, slot: usize) -> Option<i64> {
     match source.slot(slot) {
-        Ok(Slot::Reported(reading)) => reading.up.map(|price| price.cents()),
+        Ok(Some(reading)) => reading.up.map(|price| price.cents()),
         _ => None,
     }
 }
@@ -89,9 +89,9 @@ fn missing_rows(rt: HostRuntime) {
         down: None,
     }; 3];
     let table = table(&rows, None);
-    assert!(rt; matches!(table.slot(2), Ok(Slot::Reported(_))));
-    assert!(rt; matches!(table.slot(3), Ok(Slot::Unreported)));
-    assert!(rt; matches!(table.slot(227), Ok(Slot::Unreported)));
+    assert!(rt; matches!(table.slot(2), Ok(Some(_))));
+    assert!(rt; matches!(table.slot(3), Ok(None)));
+    assert!(rt; matches!(table.slot(227), Ok(None)));
     assert!(rt;
         table
             .slot(228)

@@ -7,6 +7,7 @@ use source::table::{Row, Table};
 use std::test::Fail;
 use units::price::Price;
 use units::quantity::Quantity;
+use units::refusal::Refusal;
 use units::zone_net::ZoneNet;
 use writing::sheet_writer::{sheet_len, sheet_vec, write_sheet};
 

@@ -7,7 +7,7 @@ use Rattle.settlement.proofs.book.Book.price.Given as given
 use Rattle.settlement.proofs.book.Book.price.Goals as goal
 
 abbrev rules : given.Over → Rules
-rules g = record { code = g.R.Rulebook.code; net = g.R.Rulebook.net; ruling = g.R.Rulebook.ruling }
+rules g = record { code = g.R.Rulebook.CODE; net = g.R.Rulebook.NET; ruling = g.R.Rulebook.ruling }
 
 -- the laws, as every rulebook under the bound owes them
 lawful : (g : given.Over) → Lawful (rules g)
