@@ -4,7 +4,8 @@ use Rattle.std.proofs.lemmas.Bool.{le-leb}
 use Rattle.metering.specs.Imbalances.{Values, in_bounds, metering_fault, position, position_of, schedule_fault, unless, unless_fault}
 use Rattle.metering.specs.declared.fault.MeteringFault.TheVariants.{Position, Allocated, Adjustment}
 
-passed : {X F : Type 0} (o : Option F) (x z : X) → Ok z ≡ unless_fault o x → (o ≡ None) × (z ≡ x)
+-- an answer that is given, of a call whose checks are then all passed
+pub passed : {X F : Type 0} (o : Option F) (x z : X) → Ok z ≡ unless_fault o x → (o ≡ None) × (z ≡ x)
 passed None x z e = (refl, cc)
 passed (Some f) x z e = let w : ◌≡◌ {A = ℕ} 0 1 = cc in absurd (omega arith)
 
