@@ -14,19 +14,15 @@ use sheet::sheet::Sheet;
 use std::alloc::Global;
 use units::refusal::Refusal;
 
-// The part of the bytes between two places, or nothing where there is no such part.
-fn part<'a>(bytes: &'a [u8], start: usize, end: usize) -> &'a [u8] {
-    bytes.get(start..end).unwrap_or(&[])
-}
-
-// Prices each quarter from its own sheet, and answers how many have a price.
+// Prices each quarter from its own sheet, from no bytes where its places are none of the sheets', and answers how many
+// have a price.
 fn price_all(book: &mut Book, sheets: &[u8], ends: &[usize]) -> usize
     ensures { result ≤ length ends.now }
 {
     let mut priced = 0;
     let mut start = 0;
     for (period, end) in ends.iter().enumerate() {
-        let sheet = Sheet::read(part(sheets, start, *end));
+        let sheet = Sheet::read(sheets.get(start..*end).unwrap_or(&[]));
         if book.price(period, &sheet, &Finnish).is_ok() {
             priced += 1;
         }

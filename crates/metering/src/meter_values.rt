@@ -1,5 +1,5 @@
 // From meter values to the imbalance.
-ghost use Rattle.std.specs.Prelude.{◌≡◌, ◌≤◌, length, IfOk, unsigned_abs};
+ghost use Rattle.std.specs.Prelude.{◌≡◌, ◌≤◌, ◌-ℤ◌, length, IfOk, unsigned_abs};
 ghost use Rattle.metering.specs.Imbalances.{balanced, imbalance_of, in_bounds, kwh_of, position_of, unless, unless_fault, values_of};
 
 use crate::fault::MeteringFault;
@@ -44,6 +44,18 @@ fn position_of(schedules: &[i64]) -> Result<i64, MeteringFault>
     Ok(position)
 }
 
+// Allocated less position less adjustment, which fits since each is in bounds.
+fn difference(allocated: i64, position: i64, adjustment: i64) -> Imbalance
+    requires allocated { unsigned_abs allocated ≤ 5_000_000 }
+    requires position { unsigned_abs position ≤ 5_000_000 }
+    requires adjustment { unsigned_abs adjustment ≤ 5_000_000 }
+    ensures { result.kwh ≡ allocated -ℤ position -ℤ adjustment }
+{
+    Imbalance {
+        kwh: (allocated - position - adjustment) as i32,
+    }
+}
+
 impl Imbalance {
     /// The imbalance of a party of which nothing is metered.
     pub fn zero() -> Imbalance
@@ -70,8 +82,6 @@ impl MeterValues<'_> {
         let position = bounded(position_of(self.schedules)?, MeteringFault::Position)?;
         let allocated = bounded(self.allocated, MeteringFault::Allocated)?;
         let adjustment = bounded(self.adjustment, MeteringFault::Adjustment)?;
-        Ok(Imbalance {
-            kwh: (allocated - position - adjustment) as i32,
-        })
+        Ok(difference(allocated, position, adjustment))
     }
 }

@@ -1,7 +1,7 @@
 -- Checks that are passed, and answers that are accepted or refused by them.
 use Rattle.std.proofs.Common.{◌≡◌, ℕ, ◌<◌, ◌≤◌, Bool, true, false, Some, None, Ok, Err, Option, Result, refl, ap, arith}
 use Rattle.std.proofs.lemmas.Bool.{ltb-true, lt-ltb, le-ltb, not-true}
-use Rattle.metering.specs.Imbalances.{or_next, unless, unless_fault}
+use Rattle.metering.specs.Imbalances.{or_next, unless}
 use Rattle.pricing.specs.Quotes.{Answer, Quoted}
 use Rattle.pricing.specs.declared.quote.Quote.{Quote}
 use Rattle.source.specs.Meanings.{Meaning}
@@ -24,11 +24,6 @@ or_none (Some f) b e = let z : ◌≡◌ {A = ℕ} 0 1 = cc in absurd (omega ari
 pub unless_none : {F : Type 0} (t : Bool) (f : F) → unless t f ≡ None → t ≡ true
 unless_none true f e = refl
 unless_none false f e = let z : ◌≡◌ {A = ℕ} 0 1 = cc in absurd (omega arith)
-
--- an accepted answer, of a call whose checks are then all passed
-pub accepted : {X F : Type 0} (o : Option F) (x z : X) → Ok z ≡ unless_fault o x → (o ≡ None) × (z ≡ x)
-accepted None x z e = (refl, cc)
-accepted (Some f) x z e = never z f e
 
 pub taken : {X F : Type 0} (o : Option F) (a : Result X F) (z : X) → Ok z ≡ unless_refused o a → (o ≡ None) × (Ok z ≡ a)
 taken None a z e = (refl, e)

@@ -1,10 +1,11 @@
 -- Each call keeps that the book holds what the run says.
-use Rattle.std.proofs.Common.{◌≡◌, ℕ, zero, suc, ◌<◌, ◌≤◌, Bool, true, false, not, ◌&&◌, eqb, ◌≢◌, List, [], ◌∷◌, length, get_or, set, map, replicate, ℤ, ◌+ℤ◌, ◌-ℤ◌, ◌*ℤ◌, Some, None, Ok, Err, IfOk, vec_items, vec_len, Option, Result, sym, refl, ap, ◌∙◌, subst, ⊎_elim, arith, get_or-set_other, get_or-set_same}
+use Rattle.std.proofs.Common.{◌≡◌, ℕ, zero, suc, ◌<◌, ◌≤◌, Bool, true, false, not, ◌&&◌, eqb, ◌≢◌, List, [], ◌∷◌, length, get_or, set, replicate, ℤ, ◌+ℤ◌, ◌-ℤ◌, ◌*ℤ◌, Some, None, Ok, Err, IfOk, vec_items, vec_len, Option, Result, sym, refl, ap, ◌∙◌, subst, ⊎_elim, arith, get_or-set_other, get_or-set_same}
 use borrow.Author.Differences.{ints}
 use Rattle.std.specs.Option.{option_map}
 use Rattle.std.proofs.lemmas.Bool.{eqb-true, eq-eqb, ne_eqb, cases_Bool, cases_eq, cases_lt, and_parts, and_from}
 use Rattle.std.proofs.lemmas.List.{get_or-replicate, length-map}
 use Rattle.metering.specs.Imbalances.{Values, balanced, imbalance, kwh_of, metering_fault, or_next, unless, unless_fault}
+use Rattle.metering.proofs.Positions.{passed}
 use Rattle.metering.specs.declared.imbalance.Imbalance.{Imbalance}
 use Rattle.pricing.specs.declared.quote.Quote.{Quote}
 use Rattle.source.specs.Meanings.{Meaning}
@@ -22,7 +23,7 @@ use Rattle.settlement.specs.declared.fault.BookFault.{BookFault}
 use Rattle.settlement.specs.declared.fault.BookFault.TheVariants.{QuarterClosed, Metering}
 use Rattle.settlement.specs.declared.quarter.Quarter.{Quarter}
 use Rattle.settlement.specs.declared.quarter.Quarter.TheVariants.{Blank, Priced, Closed}
-use Rattle.settlement.proofs.Checks.{Accepted, Shut, accepted, closing_accepted, or_none, party_known, party_past, period_known, pricing_accepted}
+use Rattle.settlement.proofs.Checks.{Accepted, Shut, closing_accepted, or_none, party_known, party_past, period_known, pricing_accepted}
 use Rattle.settlement.proofs.Filings.{filed, right, within_bounds}
 use Rattle.settlement.proofs.Only.{only}
 use Rattle.settlement.proofs.Readings.{SameCounts, filed_counts, metered_counts, paid_counts, volumes_long}
@@ -188,7 +189,7 @@ step : (h : List Event) (e : Event) (b b' : Book) → Did e b b' → Reached h b
 step h (priced p m r (Ok x)) b b' d k = priced_run h b b' p m r x d.lawful (pricing_accepted (in_book b) p m r x d.answered) d.changes k
 step h (priced p m r (Err f)) b b' d k = unchanged _ h b b' d.changes (record { standings = k.standings; closings = k.closings; prices = k.prices; bounds = k.bounds; volumes = k.volumes; payments = k.payments })
 step h (metered p q v (Ok i)) b b' d k =
-    let s = accepted (volume_fault (in_book b) p q v) (imbalance v) i.kwh d.answered in
+    let s = passed (volume_fault (in_book b) p q v) (imbalance v) i.kwh d.answered in
     let n = or_none (period_fault (in_book b) p) _ s.0 in
     let o = or_none (party_fault (in_book b) q) _ n.1 in
     metered_run h b b' p q v i (period_known (in_book b) p n.0) (party_known (in_book b) q o.0) s.1 d.changes k
@@ -196,7 +197,7 @@ step h (metered p q v (Err f)) b b' d k = unchanged _ h b b' d.changes (record {
 step h (closed p (Ok x)) b b' d k = closed_run h b b' p x (closing_accepted (in_book b) p x d.answered) d.changes k
 step h (closed p (Err f)) b b' d k = unchanged _ h b b' d.changes (record { standings = k.standings; closings = k.closings; prices = k.prices; bounds = k.bounds; volumes = k.volumes; payments = k.payments })
 step h (settled q (Ok x)) b b' d k =
-    let s = accepted (party_fault (in_book b) q) (payable (in_book b) q) x.cents d.answered in
+    let s = passed (party_fault (in_book b) q) (payable (in_book b) q) x.cents d.answered in
     settled_run h b b' q x (party_known (in_book b) q s.0) d.changes k
 step h (settled q (Err f)) b b' d k = unchanged _ h b b' d.changes (record { standings = k.standings; closings = k.closings; prices = k.prices; bounds = k.bounds; volumes = k.volumes; payments = k.payments })
 
@@ -225,7 +226,7 @@ fair n m h (metered p q v a) d = tt
 fair n m h (closed p a) d = tt
 fair n m h (settled q (Err f)) d = tt
 fair n m h (settled q (Ok x)) d =
-    let s = accepted (party_fault (after_run n m h) q) (payable (after_run n m h) q) x.cents d in
+    let s = passed (party_fault (after_run n m h) q) (payable (after_run n m h) q) x.cents d in
     let t : ℤ = worth (after_run n m h) q in
     rw (eq-eqb q q refl) (record { divides = omega arith; close = omega (arith, ints, s.1, (nearest_rounded t 1000 (omega arith)).close) })
 
@@ -279,18 +280,18 @@ fresh_sound b f =
 -- AN ANSWER THAT THE BOOK GIVES, BY THE RUN
 
 pub quarter_said : (b : Book) (p : ℕ) (a : Result Quarter BookFault) → a ≡ unless_fault (period_fault (in_book b) p) (quarter_at b p) → (h : List Event) → Run h b → IfOk a (λ x. x ≡ quarter_after h p)
-quarter_said b p (Ok x) e h r = (accepted _ _ x e).1 ∙ (kept r).standings p
+quarter_said b p (Ok x) e h r = (passed _ _ x e).1 ∙ (kept r).standings p
 quarter_said b p (Err f) e h r = tt
 
 pub volume_said : (b : Book) (p q : ℕ) (a : Result Imbalance BookFault) → a ≡ unless_fault (place_fault (in_book b) p q) (imbalance_at b p q) → (h : List Event) → Run h b → IfOk a (λ x. x.kwh ≡ volume_after h p q)
 volume_said b p q (Ok x) e h r =
-    let s = accepted (place_fault (in_book b) p q) _ x e in
+    let s = passed (place_fault (in_book b) p q) _ x e in
     let n = or_none (period_fault (in_book b) p) (party_fault (in_book b) q) s.0 in
     ap (λ (i : Imbalance). i.kwh) s.1 ∙ (kept r).volumes p q (period_known (in_book b) p n.0) (party_known (in_book b) q n.1)
 volume_said b p q (Err f) e h r = tt
 
 pub payments_said : (b : Book) (q : ℕ) (a : Result Amount BookFault) → a ≡ unless_fault (party_fault (in_book b) q) (paid_to b q) → (h : List Event) → Run h b → IfOk a (λ x. x.cents ≡ payments_since h q)
 payments_said b q (Ok x) e h r =
-    let s = accepted (party_fault (in_book b) q) _ x e in
+    let s = passed (party_fault (in_book b) q) _ x e in
     ap (λ (y : Amount). y.cents) s.1 ∙ (kept r).payments q (party_known (in_book b) q s.0)
 payments_said b q (Err f) e h r = tt

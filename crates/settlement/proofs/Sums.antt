@@ -1,7 +1,8 @@
 -- Sums of volume times price: how large they are, and one period more.
-use Rattle.std.proofs.Common.{◌≡◌, ℕ, zero, suc, ◌+◌, ◌*◌, ◌<◌, ◌≤◌, true, false, ℤ, pos, negsuc, ◌+ℤ◌, ◌-ℤ◌, ◌*ℤ◌, neg_ℤ, nat_abs, refl, add-one, arith, w64, SFits}
+use Rattle.std.proofs.Common.{◌≡◌, ℕ, zero, suc, ◌+◌, ◌*◌, ◌<◌, ◌≤◌, true, false, ℤ, pos, negsuc, ◌+ℤ◌, ◌-ℤ◌, ◌*ℤ◌, nat_abs, refl, add-one, arith, w64, SFits}
 use borrow.Author.Differences.{ints}
 use lib.Signed.{lt_z, quot_z}
+use Rattle.std.proofs.lemmas.Int.{unsigned_abs-mul}
 use Rattle.std.proofs.lemmas.Nat.{mul-le}
 use Rattle.units.proofs.Rounds.{nearest_rounded}
 use Rattle.units.specs.Rounding.{half_up, rounded}
@@ -10,22 +11,13 @@ use Rattle.settlement.specs.Quarters.{standing_cents}
 use Rattle.settlement.specs.declared.quarter.Quarter.{Quarter}
 use Rattle.settlement.specs.declared.quarter.Quarter.TheVariants.{Blank, Priced, Closed}
 
-nat_abs_neg : (n : ℕ) → nat_abs (neg_ℤ (pos n)) ≡ n
-nat_abs_neg n = omega (arith, ints)
-
-nat_abs_mul : (a b : ℤ) → nat_abs (a *ℤ b) ≡ nat_abs a * nat_abs b
-nat_abs_mul (pos a) (pos b) = refl
-nat_abs_mul (pos a) (negsuc b) = nat_abs_neg (a * suc b)
-nat_abs_mul (negsuc a) (pos b) = nat_abs_neg (suc a * b)
-nat_abs_mul (negsuc a) (negsuc b) = refl
-
 pub cents_small : (x : Quarter) → nat_abs (standing_cents x) ≤ 9_999_900
 cents_small Blank = omega arith
 cents_small (Priced q) = q.price.bounded
 cents_small (Closed q) = q.price.bounded
 
 pub term_small : (v x : ℤ) → nat_abs v ≤ 15_000_000 → nat_abs x ≤ 9_999_900 → nat_abs (v *ℤ x) ≤ 149_998_500_000_000
-term_small v x a b = rw nat_abs_mul (mul-le (nat_abs v) (nat_abs x) 15_000_000 9_999_900 a b)
+term_small v x a b = rw unsigned_abs-mul (mul-le (nat_abs v) (nat_abs x) 15_000_000 9_999_900 a b)
 
 pub sum_fits : (s t : ℤ) (i : ℕ) → nat_abs s ≤ i * 149_998_500_000_000 → i < 100 → nat_abs t ≤ 149_998_500_000_000 → SFits w64 (s +ℤ t)
 sum_fits s t i a l b = omega (arith, ints)

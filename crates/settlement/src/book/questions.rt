@@ -43,9 +43,9 @@ impl Book {
         ensures answers { result ≡ unless_fault (party_fault (in_book self.now) party) (paid_to self.now party) }
         ensures as_the_run_says { (h : List Event) → Run h self.now → IfOk result (λ x. x.cents ≡ payments_since h party) }
     {
-        let Some(found) = self.parties.get(party) else {
-            return Err(BookFault::PartyOutOfRange { party });
-        };
-        Ok(found.paid)
+        self.parties
+            .get(party)
+            .map(|found| found.paid)
+            .ok_or(BookFault::PartyOutOfRange { party })
     }
 }

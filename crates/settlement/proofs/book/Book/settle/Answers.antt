@@ -1,4 +1,4 @@
-use Rattle.std.proofs.Common.{◌≡◌, ℕ, ◌<◌, ◌≤◌, set, map, ℤ, ◌-ℤ◌, nat_abs, Ok, vec_items, refl, sym, ap, ◌∙◌, arith, w64, SFits}
+use Rattle.std.proofs.Common.{◌≡◌, ℕ, ◌<◌, set, ℤ, ◌-ℤ◌, Ok, vec_items, refl, ap, ◌∙◌, arith, w64, SFits}
 use borrow.Author.Differences.{ints}
 use Rattle.std.proofs.Math.Seq.{map-set_same}
 use Rattle.std.proofs.lemmas.Int.{to_z-of_z}

@@ -1,17 +1,15 @@
-use Rattle.std.proofs.Common.{◌≡◌, ℕ, ◌*◌, ◌<◌, ◌≤◌, length, get_or, vec_items, ℤ, ◌+ℤ◌, ◌*ℤ◌, nat_abs, sym, refl, ap, ◌∙◌, arith, w64, SFits}
+use Rattle.std.proofs.Common.{◌≡◌, ℕ, ◌*◌, ◌<◌, ◌≤◌, length, vec_items, ℤ, ◌+ℤ◌, ◌*ℤ◌, nat_abs, sym, refl, ◌∙◌, arith, w64, SFits}
 use borrow.Author.Differences.{ints}
 use Rattle.std.specs.Iterator.Adapters.{zip_first, zip_second}
 use Rattle.std.specs.Slice.Iter.{iter_rest}
 use Rattle.std.proofs.lemmas.Int.{to_z-of_z}
 use Rattle.std.proofs.lemmas.List.{length_push}
-use Rattle.std.proofs.lemmas.Slice.Zip.{zip_end, zip_turn}
+use Rattle.std.proofs.lemmas.Slice.Zip.{zip_turn}
 use Rattle.metering.specs.Imbalances.{balanced}
-use Rattle.metering.specs.declared.imbalance.Imbalance.{Imbalance}
 use Rattle.settlement.specs.Books.{imbalance_at, quarter_at, volumes_of}
 use Rattle.settlement.specs.Quarters.{standing_cents}
-use Rattle.settlement.specs.declared.quarter.Quarter.{Quarter}
 use Rattle.settlement.specs.declared.quarter.Quarter.TheVariants.{Blank}
-use Rattle.settlement.proofs.Readings.{read_volumes, volumes_long}
+use Rattle.settlement.proofs.Readings.{read_volumes}
 use Rattle.settlement.proofs.Sums.{cents_small, sum_fits, sum_more, sum_small, term_small}
 use Rattle.settlement.proofs.book.Book.worth.Goals as goal
 

@@ -1,4 +1,4 @@
-use Rattle.std.proofs.Common.{◌≡◌, ◌*◌, ◌≤◌, length, vec_items, vec_len, ◌*ℤ◌, nat_abs}
+use Rattle.std.proofs.Common.{◌≡◌, ◌*◌, ◌≤◌, length, vec_len, ◌*ℤ◌, nat_abs}
 use Rattle.settlement.specs.Books.{imbalance_at, quarter_at}
 use Rattle.settlement.specs.Known.{sum_to}
 use Rattle.settlement.specs.Quarters.{standing_cents}
