@@ -15,20 +15,21 @@ pub(crate) struct Party {
     ghost payments: { unsigned_abs paid.cents ≤ 15_000_000_000_000 },
 }
 
-// A party of which nothing is metered, and that was paid nothing.
-fn blank_party(heap: Global, periods: usize) -> Result<Party, AllocError>
-    ensures volumes { IfOk result (λ p. vec_items p.volumes ≡ replicate periods balanced) }
-    ensures long { IfOk result (λ p. vec_len p.volumes ≡ periods) }
-    ensures paid { IfOk result (λ p. p.paid ≡ nothing) }
-{
-    let volumes = vec![in heap; Imbalance::zero(); periods]?;
-    Ok(Party {
-        volumes,
-        paid: Amount { cents: 0 },
-    })
+impl Party {
+    // A party of which nothing is metered, and that was paid nothing.
+    fn blank(heap: Global, periods: usize) -> Result<Party, AllocError>
+        ensures volumes { IfOk result (λ p. vec_items p.volumes ≡ replicate periods balanced) }
+        ensures long { IfOk result (λ p. vec_len p.volumes ≡ periods) }
+        ensures paid { IfOk result (λ p. p.paid ≡ nothing) }
+    {
+        Ok(Party {
+            volumes: vec![in heap; Imbalance::zero(); periods]?,
+            paid: Amount { cents: 0 },
+        })
+    }
 }
 
-// So many of them.
+// As many such parties as the book has.
 pub(crate) fn blank_parties(
     heap: Global,
     periods: usize,
@@ -39,9 +40,9 @@ pub(crate) fn blank_parties(
     ensures volumes { IfOk result (λ v. map (λ p. vec_items p.volumes) (vec_items v) ≡ replicate parties (replicate periods balanced)) }
     ensures paid { IfOk result (λ v. map (λ p. p.paid) (vec_items v) ≡ replicate parties nothing) }
 {
-    let mut opened = Vec::with_capacity(heap, parties)?;
+    let mut made = Vec::with_capacity(heap, parties)?;
     for _party in 0..parties {
-        opened.push(blank_party(heap, periods)?)?;
+        made.push(Party::blank(heap, periods)?)?;
     }
-    Ok(opened)
+    Ok(made)
 }

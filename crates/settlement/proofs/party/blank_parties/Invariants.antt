@@ -5,8 +5,8 @@ use Rattle.settlement.proofs.party.blank_parties.Given as goal
 
 abbrev pub invariant-loop-party : goal.invariant-loop-party
 invariant-loop-party l = record {
-  count : vec_len l.opened ≡ l._party;
-  long : All (λ p. vec_len p.volumes ≡ l.periods) (vec_items l.opened);
-  volumes : map (λ p. vec_items p.volumes) (vec_items l.opened) ≡ replicate l._party (replicate l.periods balanced);
-  paid : map (λ p. p.paid) (vec_items l.opened) ≡ replicate l._party nothing;
+  count : vec_len l.made ≡ l._party;
+  long : All (λ p. vec_len p.volumes ≡ l.periods) (vec_items l.made);
+  volumes : map (λ p. vec_items p.volumes) (vec_items l.made) ≡ replicate l._party (replicate l.periods balanced);
+  paid : map (λ p. p.paid) (vec_items l.made) ≡ replicate l._party nothing;
 }
