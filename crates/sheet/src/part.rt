@@ -15,7 +15,9 @@ pub(crate) struct Part<'a> {
 }
 
 impl Part<'_> {
-    // The number that begins at the byte `from`, and where it ends.
+    // The number that begins at the byte `from`, and where it ends. A call that is not inlined stores the part and loads
+    // it again.
+    #[inline(always)]
     pub(crate) fn quantity<Q: Quantity>(&self, from: usize) -> Result<(Q, usize), NumberFault>
         requires { from ≤ length self.now.bytes.now }
         ensures reads { result ≡ quantity Q.Quantity.made self.now.start self.now.bytes.now from }
