@@ -1,6 +1,6 @@
 // One call of the book as one printed line.
 use metering::imbalance::Imbalance;
-use pricing::quote::{Quote, QuoteDirection};
+use pricing::quote::Quote;
 use settlement::fault::BookFault;
 use settlement::quarter::Quarter;
 use std::fmt;
@@ -44,15 +44,11 @@ impl fmt::Display for Filed {
         let Some(quote) = self.0 else {
             return write!(f, "blank");
         };
-        let letter = match quote.direction {
-            QuoteDirection::Up => "U",
-            QuoteDirection::Down => "D",
-            QuoteDirection::Avoided => "A",
-        };
+        let direction = quote.direction;
         let euros = Amount {
             cents: quote.price.cents(),
         };
-        write!(f, "code {}, {letter} {euros} EUR/MWh", quote.code)
+        write!(f, "code {}, {direction} {euros} EUR/MWh", quote.code)
     }
 }
 

@@ -10,7 +10,7 @@ use units::demand::Demand;
 use units::price::Price;
 
 /// A slot as the sheet has it: by its lead byte, with the bytes after that and their place. Its quantities are asked of
-/// the reader: an enum that borrows can't hold values with a ghost field.
+/// the reader, which keeps what its last record told.
 #[derive(Clone, Copy)]
 pub enum Record<'a> {
     Unreported { place: usize },
