@@ -38,10 +38,7 @@ impl Span {
     fn farthest(self, direction: Direction) -> Ratio
         ensures { exact_of result ≡ farthest direction self }
     {
-        match direction {
-            Direction::Up => Ratio::from(self.highest),
-            Direction::Down => Ratio::from(self.lowest),
-        }
+        Ratio::from(direction.pick(self.highest, self.lowest))
     }
 }
 
@@ -103,10 +100,7 @@ impl Figures {
     pub fn side(&self, direction: Direction) -> Side
         ensures { result ≡ side_in direction self.now }
     {
-        match direction {
-            Direction::Up => self.up,
-            Direction::Down => self.down,
-        }
+        direction.pick(self.up, self.down)
     }
 
     /// The volume-weighted mean of all that counts in a direction.

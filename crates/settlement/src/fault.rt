@@ -43,10 +43,10 @@ impl Refusal for BookFault {
 
     fn place(self) -> usize {
         match self {
-            BookFault::PeriodOutOfRange { period } => period,
+            BookFault::PeriodOutOfRange { period }
+            | BookFault::QuarterClosed { period }
+            | BookFault::QuarterBlank { period } => period,
             BookFault::PartyOutOfRange { party } => party,
-            BookFault::QuarterClosed { period } => period,
-            BookFault::QuarterBlank { period } => period,
             BookFault::Metering(fault) => fault.place(),
             BookFault::NoQuote { fault, .. } => fault.place(),
         }

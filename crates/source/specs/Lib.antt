@@ -1,3 +1,4 @@
+pub mod Directions
 pub mod Fills
 pub mod Meanings
 pub mod Products

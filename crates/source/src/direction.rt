@@ -1,6 +1,21 @@
 // The direction of a demand and of a price formed for it.
+ghost use Rattle.std.specs.Prelude.{◌≡◌};
+ghost use Rattle.source.specs.Directions.{picked};
+
 #[derive(Clone, Copy, PartialEq, Eq)]
 pub enum Direction {
     Up,
     Down,
+}
+
+impl Direction {
+    /// Of two values, one for each direction, the one of this.
+    pub fn pick<T: Drop>(self, up: T, down: T) -> T
+        ensures { result ≡ picked self up down }
+    {
+        match self {
+            Direction::Up => up,
+            Direction::Down => down,
+        }
+    }
 }

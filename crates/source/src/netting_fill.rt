@@ -1,18 +1,12 @@
 // A layer over any source: where netting met an automatic demand, the avoided value is its reference price.
 ghost use Rattle.std.specs.Prelude.{◌≡◌};
-ghost use Rattle.source.specs.Fills.{fill_slot, filled_meaning, filled_price};
+ghost use Rattle.source.specs.Fills.{fill_slot, filled_meaning};
 
 use crate::price_source::PriceSource;
 use crate::product::Product;
 use crate::slot::{NoSuchSlot, Reading, Slot};
 use units::price::Price;
 use units::zone_net::ZoneNet;
-
-fn filled_price(wanted: bool, formed: Option<Price>, avoided: Option<Price>) -> Option<Price>
-    ensures { result ≡ filled_price wanted formed avoided }
-{
-    if wanted { formed.or(avoided) } else { formed }
-}
 
 fn fill_slot(avoided: Option<Price>, slot: Slot) -> Slot
     ensures { result ≡ fill_slot avoided slot }
@@ -21,8 +15,8 @@ fn fill_slot(avoided: Option<Price>, slot: Slot) -> Slot
         let kw = reading.demand.kw();
         Reading {
             demand: reading.demand,
-            up: filled_price(kw > 0, reading.up, avoided),
-            down: filled_price(kw < 0, reading.down, avoided),
+            up: reading.up.or(avoided.filter(|_| kw > 0)),
+            down: reading.down.or(avoided.filter(|_| kw < 0)),
         }
     })
 }

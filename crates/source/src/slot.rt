@@ -24,10 +24,7 @@ impl Reading {
     pub fn formed(self, direction: Direction) -> Option<Price>
         ensures { result ≡ formed direction self }
     {
-        match direction {
-            Direction::Up => self.up,
-            Direction::Down => self.down,
-        }
+        direction.pick(self.up, self.down)
     }
 }
 
