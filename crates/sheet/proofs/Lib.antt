@@ -2,8 +2,5 @@ pub mod Firsts
 pub mod Leads
 pub mod Opening
 pub mod Places
-pub mod Quantities
-pub mod Standings
 pub mod Telling
 pub mod Views
-pub mod Wholes
