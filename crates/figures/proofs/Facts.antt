@@ -1,7 +1,7 @@
 -- What every value of the figures' type has, since some slots give it.
 use mathlib.Core.Logic.{∥∥₁_elim}
-use Rattle.std.proofs.Common.{◌≡◌, ℕ, ◌*◌, ◌≤◌, ltb, ℤ, nat_abs, Some, sym, ap, ◌∙◌, subst, arith}
-use Rattle.std.proofs.lemmas.Bool.{cond-true, lt-ltb}
+use Rattle.std.proofs.Common.{◌≡◌, ℕ, ◌*◌, ◌≤◌, ℤ, nat_abs, Some, sym, subst, arith}
+use Rattle.std.proofs.lemmas.Bool.Decides.{nat_tests}
 use Rattle.source.specs.declared.direction.Direction.{Direction}
 use Rattle.source.specs.declared.direction.Direction.TheVariants.{Up, Down}
 use Rattle.figures.specs.Components.{quotient, side_in}
@@ -36,5 +36,4 @@ pub sizes_in : (f : Figures) (d : Direction) (s : Side) → s ≡ side_in d f �
 sizes_in f d s e = sizes_of s (subst Sound (sym e) (sound_in f d))
 
 pub quotient_is : (x : ℤ) (v : ℕ) (n : ℤ) (d : ℕ) → n ≡ x → d ≡ v → 1 ≤ d → Some (record { n = n; d = d }) ≡ quotient x v
-quotient_is x v n d e f h =
-    ap (λ z. Some (record { n = z; d = d })) e ∙ (ap (λ k. Some (record { n = x; d = k })) f ∙ sym (cond-true (ltb 0 v) _ _ (lt-ltb 0 v (omega arith))))
+quotient_is x v n d e f h = grind (arith, nat_tests)

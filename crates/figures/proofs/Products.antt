@@ -1,8 +1,6 @@
 -- Products of a natural and a signed number.
-use Rattle.std.proofs.Common.{◌≡◌, ℕ, ◌*◌, ◌≤◌, ℤ, pos, negsuc, ◌+ℤ◌, ◌*ℤ◌, nat_abs, None, Some, Option, ap, ◌∙◌, mul-le-mul_left, arith, w64, to_z, of_z}
-use Rattle.units.specs.declared.price.Price.{Price}
+use Rattle.std.proofs.Common.{◌≡◌, ℕ, ◌*◌, ◌≤◌, ℤ, pos, negsuc, ◌+ℤ◌, ◌*ℤ◌, nat_abs, Option, ap, ◌∙◌, mul-le-mul_left, arith, w64, to_z, of_z}
 use Rattle.figures.specs.Components.{worth}
-use Rattle.figures.specs.Sides.{cents_of}
 use Rattle.figures.specs.declared.side.Manual.{Manual}
 use Rattle.figures.specs.declared.side.Totals.{Totals}
 use Rattle.figures.specs.declared.span.Span.{Span}
@@ -23,9 +21,5 @@ pub totals_same : (t u : Totals) → t.volume ≡ u.volume → t.value ≡ u.val
 totals_same t u e f g =
     ap (λ v. totals v t.value t.span) e ∙ ap (λ x. totals u.volume x t.span) f ∙ ap (λ s. totals u.volume u.value s) g
 
-price_within : (v : ℕ) (o : Option Price) → nat_abs (pos v *ℤ cents_of o) ≤ 9_999_900 * v
-price_within v None = omega (arith, ints)
-price_within v (Some p) = product_within v 9_999_900 p.cents p.bounded
-
 pub worth_within : (m : Manual) → nat_abs (worth m) ≤ 9_999_900 * m.volume
-worth_within m = price_within m.volume m.price
+worth_within m = grind (arith, ints, product_within)

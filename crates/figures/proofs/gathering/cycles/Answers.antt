@@ -10,10 +10,7 @@ loop-slot-init g c =
     (subst (Tallied m 0 0) (sym c.blank-tally.ensures) (blank_tallied m), below_none _)
 
 pub noting-requires : goal.noting-requires
-noting-requires g c =
-    let m = (g.S.PriceSource.means c.args.source.now).slots in
-    let k = c.loop-slot.slot in
-    net_room m k k c.loop-slot.tally (omega arith) c.loop-slot.invariant.0
+noting-requires g c = grind (arith, net_room)
 
 pub counting-tally-requires : goal.counting-tally-requires
 counting-tally-requires g c =

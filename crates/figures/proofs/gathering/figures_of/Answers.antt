@@ -4,9 +4,7 @@ use Rattle.figures.proofs.Steps.{first_room, net_room, quarter_given, second_roo
 use Rattle.figures.proofs.gathering.figures_of.Goals as goal
 
 pub noting-requires : goal.noting-requires
-noting-requires g c =
-    let m = (g.S.PriceSource.means c.args.source.now).slots in
-    net_room m 225 225 c.in_ok-tally.tally (omega arith) c.in_ok-tally.ensures.0
+noting-requires g c = grind (arith, net_room)
 
 pub noting-requires-2 : goal.noting-requires-2
 noting-requires-2 g c =

@@ -1,6 +1,6 @@
-use Rattle.std.proofs.Common.{ap, ◌∙◌}
-use Rattle.figures.specs.Components.{formed_price, over_manual}
+use Rattle.std.proofs.Common.{arith}
+use Rattle.figures.specs.Components.{formed_price}
 use Rattle.figures.proofs.quarter_figures.Figures.formed_manual.Goals as goal
 
 pub returns : goal.returns
-returns c = c.over_manual.ensures formed_price (λ m r q. q.1) ∙ ap (over_manual formed_price c.args.direction) c.side.ensures
+returns c = grind (arith, c.over_manual.ensures formed_price)

@@ -1,7 +1,7 @@
 use borrow.Author.Differences.{ints}
-use Rattle.std.proofs.Common.{ap, ◌∙◌, arith}
-use Rattle.figures.specs.Components.{value, volume, weighted_mean}
-use Rattle.figures.proofs.Facts.{quotient_is, sizes_in}
+use Rattle.std.proofs.Common.{arith}
+use Rattle.std.proofs.lemmas.Bool.Decides.{nat_tests}
+use Rattle.figures.proofs.Facts.{sizes_in}
 use Rattle.figures.proofs.quarter_figures.Figures.weighted_mean.Goals as goal
 
 pub overflow_add-volume : goal.overflow_add-volume
@@ -27,6 +27,4 @@ invariant_of-result c =
     record { divides = omega arith; few = omega arith; bounded = omega (arith, ints) }
 
 pub returns : goal.returns
-returns c =
-    let s = sizes_in c.args.self.now c.args.direction c.side-side.result c.side-side.ensures in
-    quotient_is (value c.side-side.result) (volume c.side-side.result) _ _ (omega (arith, ints)) (omega arith) (omega arith) ∙ ap weighted_mean c.side-side.ensures
+returns c = grind (arith, ints, nat_tests, sizes_in)

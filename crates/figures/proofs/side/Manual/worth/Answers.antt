@@ -1,4 +1,4 @@
-use Rattle.std.proofs.Common.{◌*◌, ◌≤◌, nat_abs, sym, subst, arith}
+use Rattle.std.proofs.Common.{arith}
 use Rattle.std.proofs.lemmas.Grind.{common_steps}
 use Rattle.figures.proofs.Products.{worth_within}
 use Rattle.figures.proofs.side.Manual.worth.Goals as goal
@@ -7,4 +7,4 @@ pub returns-clause-value : goal.returns-clause-value
 returns-clause-value c = grind (arith, common_steps)
 
 pub returns-clause-bounded : goal.returns-clause-bounded
-returns-clause-bounded c = subst (λ z. nat_abs z ≤ 9_999_900 * c.args.self.volume) (sym (returns-clause-value c)) (worth_within c.args.self)
+returns-clause-bounded c = grind (arith, worth_within, returns-clause-value c)

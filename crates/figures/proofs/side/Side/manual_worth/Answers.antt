@@ -1,13 +1,7 @@
 use borrow.Author.Differences.{ints}
-use Rattle.std.proofs.Common.{◌≡◌, ℕ, ◌+◌, ◌*◌, ◌≤◌, ℤ, ◌+ℤ◌, nat_abs, arith, w64, SFits, rules}
+use Rattle.std.proofs.Common.{ℕ, ◌*◌, ◌≤◌, ℤ, ◌+ℤ◌, nat_abs, arith, w64, SFits, rules}
 use Rattle.std.proofs.lemmas.Int.{to_z-of_z}
 use Rattle.figures.proofs.side.Side.manual_worth.Goals as goal
-
-joined : (x y z a b c : ℤ) → x ≡ a → y ≡ b → z ≡ c → (x +ℤ y) +ℤ z ≡ a +ℤ (b +ℤ c)
-joined x y z a b c e f g = omega (arith, ints)
-
-small : (x y z : ℤ) (u v w : ℕ) → nat_abs x ≤ 9_999_900 * u → nat_abs y ≤ 9_999_900 * v → nat_abs z ≤ 9_999_900 * w → nat_abs ((x +ℤ y) +ℤ z) ≤ 9_999_900 * (u + (v + w))
-small x y z u v w e f g = omega (arith, ints)
 
 fits : (x y z : ℤ) (u v w : ℕ) → u ≤ 2_250_000_000 → v ≤ 2_250_000_000 → w ≤ 2_250_000_000 → nat_abs x ≤ 9_999_900 * u → nat_abs y ≤ 9_999_900 * v → nat_abs z ≤ 9_999_900 * w
     → SFits w64 (x +ℤ y) × SFits w64 ((x +ℤ y) +ℤ z)
@@ -26,7 +20,7 @@ returns c =
     let h : SFits w64 z = search rules in
     let k = fits x y z c.args.self.scheduled.volume c.args.self.direct_up.volume c.args.self.direct_down.volume c.requires.scheduled c.requires.direct_up c.requires.direct_down p.bounded q.bounded r.bounded in
     simp (to_z-of_z w64 x f, to_z-of_z w64 y g, to_z-of_z w64 z h, to_z-of_z w64 (x +ℤ y) k.0, to_z-of_z w64 ((x +ℤ y) +ℤ z) k.1)
-    (record {
-      value = joined x y z _ _ _ p.value q.value r.value;
-      bounded = small x y z c.args.self.scheduled.volume c.args.self.direct_up.volume c.args.self.direct_down.volume p.bounded q.bounded r.bounded;
-    })
+    (record { value = omega (arith, ints, p.value, q.value, r.value); bounded = omega (arith, ints, p.bounded, q.bounded, r.bounded) })
+
+pub overflow_add-result-2 : goal.overflow_add-result-2
+overflow_add-result-2 c = grind (arith, ints, to_z-of_z)
