@@ -27,4 +27,4 @@ loop-slot-preserved g c =
     }
 
 pub returns : goal.returns
-returns g c = all_put (g.S.PriceSource.means c.args.source.now) c.loop-slot.slot _ (omega arith) c.loop-slot.invariant.written
+returns g c = grind (arith, all_put)
