@@ -1,5 +1,5 @@
 -- A whole sheet is read back as it was written, and was written in the one form that is read.
-use Rattle.std.proofs.Common.{◌≡◌, ℕ, ◌+◌, ◌<◌, ◌≤◌, List, [], ◌++◌, length, drop, Ok, Err, Option, Result, sym, refl, ap, ◌∙◌, subst, append-nil, arith, length-append, drop_of_length-le}
+use Rattle.std.proofs.Common.{◌≡◌, ℕ, ◌+◌, ◌<◌, ◌≤◌, List, [], length, drop, Ok, Err, Option, Result, sym, refl, ap, ◌∙◌, append-nil, arith, length-append, drop_of_length-le}
 use Rattle.std.proofs.lemmas.List.{drop_at}
 use Rattle.std.proofs.lemmas.Bool.Decides.{nat_tests}
 use Rattle.std.specs.List.{flat_map, AllByRecursion}
@@ -9,11 +9,10 @@ use Rattle.source.specs.Slots.{Slot}
 use Rattle.source.specs.Meanings.{Meaning}
 use Rattle.sheet.specs.declared.fault.RecordFault.{RecordFault}
 use Rattle.sheet.specs.Heads.{head_of, Headed}
-use Rattle.sheet.specs.Rows.{row}
 use Rattle.sheet.specs.Sheets.{closes, closed, slots_from, slots_after, fault_after, sheet_slots, first_fault, sheet_net, sheet_avoided, sheet_meaning}
 use Rattle.writing.specs.Bytes.{slot_bytes, row_bytes, head_bytes, sheet_bytes}
 use Rattle.writing.specs.Trips.{Alike, TellsBack, SameBytes}
-use Rattle.writing.proofs.HeadTrips.{bytes_of, head_with, head_back, HeadedAs, headed_as}
+use Rattle.writing.proofs.HeadTrips.{bytes_of, head_with, head_back, headed_as}
 use Rattle.writing.proofs.RowTrips.{slots_of, length_slots, get_or_slots, slots_same, row_joined, row_back, Stood, row_stood, row_counted}
 
 closes_at_end : (s : List ℕ) (end : ℕ) → length s ≤ end → closes s end ≡ Ok tt
@@ -71,15 +70,10 @@ module _ (m : Meaning) (b : List ℕ) (bytes : AllByRecursion (λ x. x < 256) b)
 
     row_same : flat_map slot_bytes (slots_from b at).0 ≡ row_bytes m.slots 228
     unfolding sheet_slots slots_after slots_from
-    row_same =
-        let s : sheet_slots b ≡ (row 228 b 0 at).0 = ap (slots_after b) e in
-        let l : length (sheet_slots b) ≡ 228 = ap length s ∙ row_counted 228 b 0 at in
-        ap (flat_map slot_bytes) (sym s ∙ slots_same m.slots 228 (sheet_slots b) l alike.slots) ∙ row_joined m.slots 228
+    row_same = grind (arith, e, row_counted 228 b 0 at, slots_same m.slots 228 (sheet_slots b), alike.slots, row_joined m.slots 228)
 
     closed_same : (r : Result ℕ RecordFault) → Stood b at (slots_from b at).0 r → closed b r ≡ Ok tt → drop at b ≡ row_bytes m.slots 228
-    closed_same (Ok end) h c =
-        let d : drop end b ≡ [] = drop_of_length-le b {i = end} (ended b end c) in
-        h ∙ (ap (λ t. flat_map slot_bytes (slots_from b at).0 ++ t) d ∙ (append-nil (flat_map slot_bytes (slots_from b at).0) ∙ row_same))
+    closed_same (Ok end) h c = grind (arith, nat_tests, drop_of_length-le b {i = end}, append-nil, row_same)
     closed_same (Err f) h c = cc
 
     rest_same : closed b (slots_from b at).1 ≡ Ok tt → drop at b ≡ row_bytes m.slots 228
@@ -88,9 +82,7 @@ module _ (m : Meaning) (b : List ℕ) (bytes : AllByRecursion (λ x. x < 256) b)
 
     whole_same : closed b (slots_from b at).1 ≡ Ok tt → sheet_bytes m ≡ b
     unfolding sheet_bytes
-    whole_same c =
-        let h : b ≡ bytes_of net avoided ++ drop at b = subst (HeadedAs b) e (headed_as b bytes) in
-        sym (h ∙ (ap (λ t. t ++ drop at b) head_same ∙ ap (λ t. head_bytes m ++ t) (rest_same c)))
+    whole_same c = grind (arith, e, headed_as b bytes, head_same, rest_same)
 
   by_head : (x : Headed) → head_of b ≡ x → fault_after b x ≡ Ok tt → sheet_bytes m ≡ b
   by_head (Ok h) e c = whole_same h.zone_net h.avoided h.end e c
