@@ -1,5 +1,5 @@
 -- The bounds of a quote follow from the laws and from the rounding.
-use Rattle.std.proofs.Common.{◌≡◌, ℕ, ◌+◌, ◌*◌, ◌≤◌, ℤ, pos, ◌+ℤ◌, ◌-ℤ◌, ◌*ℤ◌, ◌≤ℤ◌, sym, ap, subst, arith}
+use Rattle.std.proofs.Common.{◌≡◌, ℕ, ◌+◌, ◌*◌, ◌≤◌, ℤ, pos, ◌+ℤ◌, ◌-ℤ◌, ◌*ℤ◌, ◌≤ℤ◌, ap, arith}
 use borrow.Author.Differences.{ints, up, down}
 use Rattle.figures.specs.Components.{side_in, value, volume}
 use Rattle.figures.specs.Spans.{low_of, high_of}
@@ -10,8 +10,8 @@ use Rattle.source.specs.declared.direction.Direction.TheVariants.{Up, Down}
 use Rattle.units.specs.Exact.{Exact}
 use Rattle.units.specs.Rounding.{Nearest}
 use Rattle.units.specs.declared.price.Price.{Price}
-use Rattle.pricing.specs.Bounds.{Bounded, BoundedBy, HalfCentFromMean, KeepsLaws}
-use Rattle.pricing.specs.Laws.{Beyond, BeyondMean, FromFormed, Within}
+use Rattle.pricing.specs.Bounds.{BoundedBy, HalfCentFromMean, KeepsLaws}
+use Rattle.pricing.specs.Laws.{Beyond}
 use Rattle.pricing.specs.Outcomes.{Outcome, priced}
 use Rattle.pricing.specs.Quotes.{standing}
 use Rattle.pricing.specs.declared.ruling.Net.{Net}
@@ -34,17 +34,7 @@ half_cent_lem : (d : Direction) (s : Side) (q : Exact) (p : ℤ) → 1 ≤ q.d �
 half_cent_lem Up s q p some near b = cross (value s) q.n ((p *ℤ pos 2) +ℤ pos 1) (volume s) q.d 2 some b (near_above q.n p q.d near)
 half_cent_lem Down s q p some near b = cross ((p *ℤ pos 2) -ℤ pos 1) q.n (value s) 2 q.d (volume s) some (near_below q.n p q.d near) b
 
-bounded : (d : Direction) (s : Side) (q : Exact) (p : ℤ) → Within s.formed q → Beyond d (value s *ℤ pos q.d) (q.n *ℤ pos (volume s)) → Nearest q.n q.d p
-    → ((low high : ℤ) → (low *ℤ pos q.d) ≤ℤ q.n → q.n ≤ℤ (high *ℤ pos q.d) → (low ≤ℤ p) × (p ≤ℤ high)) → Bounded d s p
-bounded d s q p w b near keeps =
-    let k = keeps (low_of s.formed) (high_of s.formed) w.low w.high in
-    record { formed = w.formed; low = k.0; high = k.1; mean = half_cent_lem d s q p w.divides near b }
-
-by_standing : (d : Direction) (f : Figures) (p : Price) → Bounded d (side_in d f) p.cents → BoundedBy (standing d) f p
-by_standing Up f p b = b
-by_standing Down f p b = b
-
 pub quote_bounded : (net : Net) (f : Figures) (o : Outcome) (d : Direction) (q : Exact) (p : Price) → KeepsLaws net f o → priced d q ≡ o → Nearest q.n q.d p.cents
     → ((low high : ℤ) → (low *ℤ pos q.d) ≤ℤ q.n → q.n ≤ℤ (high *ℤ pos q.d) → (low ≤ℤ p.cents) × (p.cents ≤ℤ high)) → BoundedBy (standing d) f p
 quote_bounded net f o d q p laws e near keeps =
-    by_standing d f p (bounded d (side_in d f) q p.cents (subst (FromFormed f) (sym e) laws.formed) (subst (BeyondMean f) (sym e) laws.mean) near keeps)
+    grind (arith, laws.formed, laws.mean, half_cent_lem d (side_in d f) q p.cents, keeps (low_of (side_in d f).formed) (high_of (side_in d f).formed))

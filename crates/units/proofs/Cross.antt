@@ -12,6 +12,3 @@ cross_fits (negsuc a) d f h =
     let g : suc a ≤ 2 ^ 63 = f.sfits in
     let k : d ≤ 2 ^ 64 - 1 = omega arith in
     omega (arith, ints, mul-le-mul g k)
-
-pub wider : (n : ℤ) → SFits w64 n → SFits w128 n
-wider n f = omega (arith, ints)

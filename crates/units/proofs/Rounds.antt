@@ -1,19 +1,15 @@
 -- What rounding to the nearest gives, over the naturals and then with a sign.
-use Rattle.std.proofs.Common.{◌≡◌, ℕ, zero, suc, ◌+◌, ◌*◌, ◌/◌, ◌%◌, ◌<◌, ◌≤◌, ℤ, pos, negsuc, ◌+ℤ◌, ◌-ℤ◌, ◌*ℤ◌, neg_ℤ, nat_abs, ◌≤ℤ◌, ◌<ℤ◌, sym, refl, ap, ◌∙◌, subst, mul-le-mul_right, mod-lt, arith}
+use Rattle.std.proofs.Common.{◌≡◌, ℕ, zero, suc, ◌+◌, ◌*◌, ◌/◌, ◌%◌, ◌<◌, ◌≤◌, ℤ, pos, negsuc, ◌+ℤ◌, ◌-ℤ◌, ◌*ℤ◌, neg_ℤ, nat_abs, ◌≤ℤ◌, ◌<ℤ◌, mul-le-mul_right, mod-lt, arith}
 use Rattle.units.specs.Rounding.{half_up, rounded, Nearest}
 use borrow.Author.Differences.{ints, up, down}
 use Rattle.std.proofs.lemmas.Int.{by_lt_z}
-use lib.IntN.{neg_ℤ-neg_ℤ}
 use lib.Signed.{quot_z, rem_z}
 use native.Mathlib.Nat.{div-add-mod, div-eq_of_lt-le, div-eq_of_lt}
 
 -- the remainder says which way
 pub up_past_half : (n d : ℕ) → 1 ≤ d → d ≤ 2 * (n % d) → half_up n d ≡ n / d + 1
 unfolding half_up
-up_past_half n d some h =
-    let e : d * (n / d) + n % d ≡ n = div-add-mod n d in
-    let l : n % d < d = mod-lt n some in
-    div-eq_of_lt-le (2 * d) (omega arith) (omega arith)
+up_past_half n d some h = grind (arith, div-add-mod n d, mod-lt n some)
 
 pub up_under_half : (n d : ℕ) → 1 ≤ d → 2 * (n % d) < d → half_up n d ≡ n / d
 unfolding half_up
@@ -24,17 +20,14 @@ up_under_half n d some h =
 -- the quotient stands between two multiples
 pub up_between : (n d : ℕ) → 1 ≤ d → (2 * (half_up n d * d) ≤ 2 * n + d) × (2 * n < 2 * (half_up n d * d) + d)
 unfolding half_up
-up_between n d some =
-    let e : (2 * d) * ((2 * n + d) / (2 * d)) + (2 * n + d) % (2 * d) ≡ 2 * n + d = div-add-mod (2 * n + d) (2 * d) in
-    let l : (2 * n + d) % (2 * d) < 2 * d = mod-lt (2 * n + d) (omega arith) in
-    omega arith
+up_between n d some = grind (arith, div-add-mod (2 * n + d) (2 * d), mod-lt (2 * n + d))
 
 near_pos : (n D R : ℕ) → (2 * (R * D) ≤ 2 * n + D) × (2 * n < 2 * (R * D) + D) → Nearest (pos n) D (pos R)
-near_pos n D R b = record { close = omega (arith, ints); tie = omega (arith, ints) }
+near_pos n D R b = grind (arith, ints)
 
 near_neg : (n D R : ℕ) → (2 * (R * D) ≤ 2 * suc n + D) × (2 * suc n < 2 * (R * D) + D) → Nearest (negsuc n) D (neg_ℤ (pos R))
-near_neg n D zero b = record { close = omega (arith, ints); tie = omega (arith, ints) }
-near_neg n D (suc R) b = record { close = omega (arith, ints); tie = omega (arith, ints) }
+near_neg n D zero b = grind (arith, ints)
+near_neg n D (suc R) b = grind (arith, ints)
 
 pub nearest_rounded : (N : ℤ) (D : ℕ) → 1 ≤ D → Nearest N D (rounded N D)
 unfolding rounded
@@ -43,53 +36,41 @@ nearest_rounded (negsuc n) D some = near_neg n D (half_up (suc n) D) (up_between
 
 up_zero : (D : ℕ) → half_up 0 D ≡ 0
 unfolding half_up
-up_zero zero = refl
-up_zero (suc d) = div-eq_of_lt (omega arith)
+up_zero D = grind (arith, div-eq_of_lt)
 
 pub rounded_neg : (N : ℤ) (D : ℕ) → rounded (neg_ℤ N) D ≡ neg_ℤ (rounded N D)
 unfolding rounded
-rounded_neg (pos zero) D = ap pos (up_zero D) ∙ sym (ap (λ (x : ℕ). neg_ℤ (pos x)) (up_zero D))
-rounded_neg (pos (suc n)) D = refl
-rounded_neg (negsuc n) D = sym (neg_ℤ-neg_ℤ (pos (half_up (suc n) D)))
+rounded_neg (pos n) D = grind (arith, up_zero)
+rounded_neg (negsuc n) D = grind (arith, ints)
 
 -- whole bounds are kept, by any nearest number
 pub nearest_at_least : (N : ℤ) (D : ℕ) (r lo : ℤ) → 1 ≤ D → Nearest N D r → (lo *ℤ pos D) ≤ℤ N → lo ≤ℤ r
-nearest_at_least N D r lo some near h =
-    by_lt_z r lo
-    (λ l. absurd (omega (arith, ints, mul-le-mul_right {m = up r + down lo + 1} {n = up lo + down r} D (omega (arith, ints)), near.close)))
-    (λ l. l)
+nearest_at_least N D r lo some near h = grind (arith, ints, mul-le-mul_right {m = up r + down lo + 1} {n = up lo + down r} D)
 
 pub nearest_at_most : (N : ℤ) (D : ℕ) (r hi : ℤ) → 1 ≤ D → Nearest N D r → N ≤ℤ (hi *ℤ pos D) → r ≤ℤ hi
-nearest_at_most N D r hi some near h =
-    by_lt_z hi r
-    (λ l. absurd (omega (arith, ints, mul-le-mul_right {m = up hi + down r + 1} {n = up r + down hi} D (omega (arith, ints)), near.close)))
-    (λ l. l)
+nearest_at_most N D r hi some near h = grind (arith, ints, mul-le-mul_right {m = up hi + down r + 1} {n = up r + down hi} D)
 
 -- the quotient, its remainder and a test, as the code has them
 pub past_half : (N : ℤ) (D : ℕ) → 1 ≤ D → pos D ≤ℤ (pos 2 *ℤ rem_z N (pos D)) → quot_z N (pos D) +ℤ pos 1 ≡ rounded N D
 unfolding rounded
-past_half (pos n) D some h = ap pos (sym (up_past_half n D some (omega (arith, ints))))
+past_half (pos n) D some h = grind (arith, ints, up_past_half)
 past_half (negsuc n) D some h = absurd (omega (arith, ints))
 
 pub under_minus_half : (N : ℤ) (D : ℕ) → 1 ≤ D → (pos 2 *ℤ rem_z N (pos D)) ≤ℤ neg_ℤ (pos D) → quot_z N (pos D) -ℤ pos 1 ≡ rounded N D
 unfolding rounded
 under_minus_half (pos n) D some h = absurd (omega (arith, ints))
-under_minus_half (negsuc n) D some h =
-    let e : half_up (suc n) D ≡ suc n / D + 1 = up_past_half (suc n) D some (omega (arith, ints)) in
-    rw e (omega (arith, ints))
+under_minus_half (negsuc n) D some h = grind (arith, ints, up_past_half)
 
 pub under_half : (N : ℤ) (D : ℕ) → 1 ≤ D → (pos 2 *ℤ rem_z N (pos D)) <ℤ pos D → neg_ℤ (pos D) <ℤ (pos 2 *ℤ rem_z N (pos D)) → quot_z N (pos D) ≡ rounded N D
 unfolding rounded
-under_half (pos n) D some h g = ap pos (sym (up_under_half n D some (omega (arith, ints))))
-under_half (negsuc n) D some h g = ap (λ (x : ℕ). neg_ℤ (pos x)) (sym (up_under_half (suc n) D some (omega (arith, ints))))
+under_half (pos n) D some h g = grind (arith, ints, up_under_half)
+under_half (negsuc n) D some h g = grind (arith, ints, up_under_half)
 
 pub nearest_is : (N : ℤ) (D : ℕ) {r : ℤ} → 1 ≤ D → r ≡ rounded N D → Nearest N D r
-nearest_is N D some e = subst (λ (x : ℤ). Nearest N D x) (sym e) (nearest_rounded N D some)
+nearest_is N D some e = grind (arith, nearest_rounded)
 
 pub keeps_bounds : (N : ℤ) (D : ℕ) (lo hi : ℤ) → 1 ≤ D → (lo *ℤ pos D) ≤ℤ N → N ≤ℤ (hi *ℤ pos D) → (lo ≤ℤ rounded N D) × (rounded N D ≤ℤ hi)
-keeps_bounds N D lo hi some h k =
-    let near = nearest_rounded N D some in
-    (nearest_at_least N D (rounded N D) lo some near h, nearest_at_most N D (rounded N D) hi some near k)
+keeps_bounds N D lo hi some h k = grind (arith, ints, nearest_rounded N D, nearest_at_least, nearest_at_most)
 
 -- two nearest numbers, one below the other, would both be ties, and on one side of zero the nearer loses
 apart : (N : ℤ) (D : ℕ) (r s : ℤ) → 1 ≤ D → Nearest N D r → Nearest N D s → r <ℤ s → ⊥
@@ -104,14 +85,8 @@ apart N D r s some a b l =
     (λ non. let k : down r * D ≤ up r * D = mul-le-mul_right D (omega (arith, ints)) in omega (arith, ints))
 
 pub only_nearest : (N : ℤ) (D : ℕ) (r : ℤ) → 1 ≤ D → Nearest N D r → r ≡ rounded N D
-only_nearest N D r some a =
-    let b = nearest_rounded N D some in
-    by_lt_z r (rounded N D)
-    (λ l. absurd (apart N D r (rounded N D) some a b l))
-    (λ l. by_lt_z (rounded N D) r (λ k. absurd (apart N D (rounded N D) r some b a k)) (λ k. omega (arith, ints)))
+only_nearest N D r some a = grind (arith, ints, nearest_rounded N D, apart)
 
 -- what is at most a price in size is rounded to a price
 pub price_kept : (N : ℤ) (D : ℕ) → 1 ≤ D → nat_abs N ≤ 9_999_900 * D → nat_abs (rounded N D) ≤ 9_999_900
-price_kept N D some h =
-    let k = keeps_bounds N D (negsuc 9_999_899) (pos 9_999_900) some (omega (arith, ints)) (omega (arith, ints)) in
-    omega (arith, ints)
+price_kept N D some h = grind (arith, ints, keeps_bounds N D (negsuc 9_999_899) (pos 9_999_900))

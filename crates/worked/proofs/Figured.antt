@@ -1,10 +1,9 @@
 -- The figures of a quarter whose slots are all reported, and the quote of what a rulebook gives for them.
-use Rattle.std.proofs.Common.{◌≡◌, ℕ, Some, None, Ok, Err, sym, refl, subst}
+use Rattle.std.proofs.Common.{arith, ◌≡◌, ℕ, Some, None, Ok, sym, refl, subst}
 use Rattle.figures.specs.Sides.{Given, ReportedTo, net_to, side_of}
 use Rattle.figures.specs.declared.quarter_figures.Figures.{Figures}
 use Rattle.pricing.specs.Outcomes.{Outcome, avoided, priced}
 use Rattle.pricing.specs.Quotes.{Quotes, standing}
-use Rattle.pricing.specs.declared.fault.QuoteFault.TheVariants.{NoAvoidedValue}
 use Rattle.pricing.specs.declared.quote.Quote.{Quote}
 use Rattle.pricing.specs.declared.quote.QuoteDirection.TheVariants.{Avoided}
 use Rattle.source.specs.Meanings.{Meaning}
@@ -44,11 +43,11 @@ pub by_value : (m : Meaning) (h : Reports m) (code : ℕ) (ruling : Figures → 
 by_value m h code ruling p e v =
     let q : Quote = record { code = code; direction = Avoided; price = p } in (
       q,
-      record { figures = figured m h; gives = given m h; quotes = subst (λ o. Quotes code o m.avoided (Ok q)) (sym e) (subst (λ w. Quotes code avoided w (Ok q)) (sym v) refl) },
+      record { figures = figured m h; gives = given m h; quotes = grind (arith, e) },
       refl,
       refl,
     )
 
 pub no_value : (m : Meaning) (h : Reports m) (code : ℕ) (ruling : Figures → Outcome) → ruling (figured m h) ≡ avoided → m.avoided ≡ None → NoValue m code ruling
 no_value m h code ruling e v =
-    record { figures = figured m h; gives = given m h; quotes = subst (λ o. Quotes code o m.avoided (Err NoAvoidedValue)) (sym e) (subst (λ w. Quotes code avoided w (Err NoAvoidedValue)) (sym v) refl) }
+    record { figures = figured m h; gives = given m h; quotes = grind (arith, e) }

@@ -1,6 +1,5 @@
 pub mod HeadTrips
 pub mod NumberTrips
-pub mod Numbers
 pub mod RowTrips
 pub mod SheetTrips
 pub mod SlotTrips

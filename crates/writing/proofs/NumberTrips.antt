@@ -53,19 +53,14 @@ module _ {Q : Type 0} (made : ℤ → Result Q OutOfBounds) (p : Spot) (s : List
   -- a quantity that was read is made of the number that stood there
   module _ (val : Q → ℤ) (of : (z : ℤ) (q : Q) → made z ≡ Ok q → z ≡ val q) (b : AllByRecursion (λ x. x < 256) s) (q : Q) (end : ℕ) where
     within : (z : ℤ) (n : ℕ) (r : Result Q OutOfBounds) → made z ≡ r → bounded (ahead p from) (from + n) r ≡ Ok (q, end) → (z ≡ val q) × (from + n ≡ end)
-    within z n (Ok x) m e =
-        let x-is : x ≡ q = grind arith in
-        (of z q (m ∙ ap Ok x-is), grind arith)
-    within z n (Err x) m e = let c : ◌≡◌ {A = ℕ} 0 1 = cc in absurd (omega arith)
+    within z n (Ok x) m e = grind (arith, of z q)
+    within z n (Err x) m e = cc
 
     by_groups : (g : Groups) → groups (drop from s) ≡ g → judged made p s from g ≡ Ok (q, end) → drop from s ≡ number_bytes (val q) ++ drop end s
     unfolding number_bytes
     by_groups (Ok g) e h =
         let w = within (unfolded g.0) g.1 (made (unfolded g.0)) refl h in
-        let f = groups_form (drop from s) g.0 g.1 (All-drop (λ x. x < 256) from s b) e in
-        let u : g.0 ≡ folded (val q) = sym (folded_unfolded g.0) ∙ ap folded w.0 in
-        let d : drop g.1 (drop from s) ≡ drop end s = drop-drop g.1 from s ∙ ap (λ k. drop k s) w.1 in
-        f ∙ (ap (λ u. groups_of u ++ drop g.1 (drop from s)) u ∙ ap (λ t. groups_of (folded (val q)) ++ t) d)
+        grind (arith, groups_form (drop from s) g.0 g.1 (All-drop (λ x. x < 256) from s b) e, folded_unfolded g.0, drop-drop g.1 from s)
     by_groups (Err x) e h = grind (arith, nat_tests)
 
     pub number_form : quantity made p s from ≡ Ok (q, end) → drop from s ≡ number_bytes (val q) ++ drop end s
@@ -75,10 +70,8 @@ module _ {Q : Type 0} (made : ℤ → Result Q OutOfBounds) (p : Spot) (s : List
 -- what is made of a number within its bounds has that number
 value_of : {Q : Type 0} (c : Bool) (make : T c → Q) (x : OutOfBounds) (val : Q → ℤ) (z : ℤ) → ((h : T c) → z ≡ val (make h))
     → (q : Q) → if_t c (λ h. Ok (make h)) (Err x) ≡ Ok q → z ≡ val q
-value_of true make x val z of q e =
-    let m : make tt ≡ q = grind arith in
-    of tt ∙ ap val m
-value_of false make x val z of q e = let c : ◌≡◌ {A = ℕ} 0 1 = cc in absurd (omega arith)
+value_of true make x val z of q e = grind (arith, of tt)
+value_of false make x val z of q e = cc
 
 module _ (p : Spot) (s : List ℕ) (from : ℕ) where
   pub demand_back : (d : Demand) (rest : List ℕ) → drop from s ≡ number_bytes d.kw ++ rest → quantity demand_of p s from ≡ Ok (d, from + length (number_bytes d.kw))

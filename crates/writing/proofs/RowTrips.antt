@@ -1,15 +1,15 @@
 -- A row of slots is read back as it was written, and was written in the one form that is read.
-use Rattle.std.proofs.Common.{◌≡◌, ℕ, zero, suc, ◌+◌, ◌<◌, List, [], ◌∷◌, ◌++◌, length, get_or, drop, Ok, Err, Result, sym, refl, ap, ◌∙◌, append_assoc, append-nil, arith, length-append, None}
+use Rattle.std.proofs.Common.{◌≡◌, ℕ, zero, suc, ◌+◌, ◌<◌, List, [], ◌∷◌, ◌++◌, length, get_or, drop, Ok, Err, Result, sym, refl, ap, ◌∙◌, append_assoc, append-nil, arith, None}
 use lib.ListN.{length-replicate}
 use Rattle.std.proofs.ByRecursion.{All-drop}
 use Rattle.std.proofs.lemmas.List.{drop_at, drop-drop, same_lists, get_or_default}
+use Rattle.std.proofs.lemmas.Grind.{common_steps}
 use Rattle.std.specs.List.{flat_map, AllByRecursion}
 use Rattle.source.specs.Slots.{Slot}
 use Rattle.sheet.specs.declared.fault.RecordFault.{RecordFault}
-use Rattle.sheet.specs.Records.{slot_told, Told}
-use Rattle.sheet.specs.Rows.{row, Row, step, prefixed, spot_at}
+use Rattle.sheet.specs.Rows.{row, spot_at}
 use Rattle.writing.specs.Bytes.{slot_bytes, row_bytes}
-use Rattle.writing.proofs.SlotTrips.{slot_back, slot_formed, Formed}
+use Rattle.writing.proofs.SlotTrips.{slot_back, slot_formed}
 
 -- k slots from i on
 unfoldable pub slots_of : (ℕ → Slot) → ℕ → ℕ → List Slot
@@ -23,9 +23,9 @@ length_slots m i (suc k) = ap suc (length_slots m (suc i) k)
 
 slots_at : (m : ℕ → Slot) (i k j : ℕ) (d : Slot) → j < k → get_or (slots_of m i k) j d ≡ m (i + j)
 unfolding slots_of
-slots_at m i zero j d h = absurd (omega arith)
-slots_at m i (suc k) zero d h = ap m (omega arith)
-slots_at m i (suc k) (suc j) d h = slots_at m (suc i) k j d (omega arith) ∙ ap m (omega arith)
+slots_at m i zero j d h = grind arith
+slots_at m i (suc k) zero d h = grind arith
+slots_at m i (suc k) (suc j) d h = grind (arith, slots_at m (suc i) k j d)
 
 pub get_or_slots : (m : ℕ → Slot) (k j : ℕ) (d : Slot) → j < k → get_or (slots_of m 0 k) j d ≡ m j
 get_or_slots m k j d h = slots_at m 0 k j d h ∙ ap m (omega arith)
@@ -38,34 +38,19 @@ slots_same m k vs l h =
 
 rows_joined : (m : ℕ → Slot) (i k : ℕ) → row_bytes m i ++ flat_map slot_bytes (slots_of m i k) ≡ row_bytes m (i + k)
 unfolding row_bytes slots_of
-rows_joined m i zero =
-    let z : i ≡ i + 0 = omega arith in
-    append-nil (row_bytes m i) ∙ ap (row_bytes m) z
-rows_joined m i (suc k) =
-    let n : suc i + k ≡ i + suc k = omega arith in
-    sym (append_assoc (row_bytes m i) (slot_bytes (m i)) (flat_map slot_bytes (slots_of m (suc i) k)))
-    ∙ (rows_joined m (suc i) k ∙ ap (row_bytes m) n)
+rows_joined m i zero = grind (arith, append-nil)
+rows_joined m i (suc k) = grind (arith, append_assoc, rows_joined m (suc i) k)
 
 -- the bytes of the first k slots, from the front on
 pub row_joined : (m : ℕ → Slot) (k : ℕ) → flat_map slot_bytes (slots_of m 0 k) ≡ row_bytes m k
 unfolding row_bytes
-row_joined m k =
-    let n : 0 + k ≡ k = omega arith in
-    rows_joined m 0 k ∙ ap (row_bytes m) n
+row_joined m k = grind (arith, rows_joined m 0 k)
 
 back : (s : List ℕ) (i at : ℕ) (vs : List Slot) (rest : List ℕ) → drop at s ≡ flat_map slot_bytes vs ++ rest
     → row (length vs) s i at ≡ (vs, Ok (at + length (flat_map slot_bytes vs)))
 unfolding row
-back s i at [] rest e = ap (λ n. ([], Ok n)) (omega arith)
-back s i at (v ∷ vs) rest e =
-    let n : ℕ = length (slot_bytes v) in
-    let j : List ℕ = flat_map slot_bytes vs in
-    let a : drop at s ≡ slot_bytes v ++ (j ++ rest) = e ∙ append_assoc (slot_bytes v) j rest in
-    let t : slot_told (spot_at at i) (drop at s) ≡ Ok (v, n) = ap (slot_told (spot_at at i)) a ∙ slot_back (spot_at at i) v (j ++ rest) in
-    let d : drop (at + n) s ≡ j ++ rest = sym (drop-drop n at s) ∙ (ap (drop n) a ∙ drop_at (slot_bytes v) (j ++ rest) n refl) in
-    let l : at + n + length j ≡ at + length (slot_bytes v ++ j) = omega (arith, length-append (slot_bytes v) j) in
-    ap (λ g. step (length vs) g (λ n. row (length vs) s (i + 1) (at + n))) t
-    ∙ (ap (prefixed (v ∷ [])) (back s (i + 1) (at + n) vs rest d) ∙ ap (λ m. (v ∷ vs, Ok m)) l)
+back s i at [] rest e = grind arith
+back s i at (v ∷ vs) rest e = grind (arith, common_steps, append_assoc, slot_back (spot_at at i) v, drop-drop (length (slot_bytes v)) at s, drop_at, back s (i + 1) (at + length (slot_bytes v)) vs rest)
 
 -- what was written of k slots is read back, whatever follows it
 pub row_back : (k : ℕ) (s : List ℕ) (i at : ℕ) (vs : List Slot) (rest : List ℕ) → length vs ≡ k → drop at s ≡ flat_map slot_bytes vs ++ rest
@@ -77,29 +62,15 @@ abbrev pub Stood : List ℕ → ℕ → List Slot → Result ℕ RecordFault →
 Stood s at vs (Ok end) = drop at s ≡ flat_map slot_bytes vs ++ drop end s
 Stood s at vs (Err f) = Unit {0}
 
-stood_more : (s : List ℕ) (at n : ℕ) (v : Slot) (vs : List Slot) (r : Result ℕ RecordFault) → drop at s ≡ slot_bytes v ++ drop n (drop at s) → Stood s (at + n) vs r → Stood s at (v ∷ vs) r
-stood_more s at n v vs (Ok end) h k =
-    h ∙ (ap (λ t. slot_bytes v ++ t) (drop-drop n at s ∙ k) ∙ sym (append_assoc (slot_bytes v) (flat_map slot_bytes vs) (drop end s)))
-stood_more s at n v vs (Err f) h k = tt
-
-step_stood : (k : ℕ) (s : List ℕ) (at : ℕ) (t : Told) (rest : ℕ → Row) → Formed (drop at s) t → ((n : ℕ) → Stood s (at + n) (rest n).0 (rest n).1)
-    → Stood s at (step k t rest).0 (step k t rest).1
-step_stood k s at (Ok g) rest h i = stood_more s at g.1 g.0 (rest g.1).0 (rest g.1).1 h (i g.1)
-step_stood k s at (Err f) rest h i = tt
-
 pub row_stood : (k : ℕ) (s : List ℕ) (i at : ℕ) → AllByRecursion (λ x. x < 256) s → Stood s at (row k s i at).0 (row k s i at).1
 unfolding row
 row_stood zero s i at b = refl
 row_stood (suc k) s i at b =
-    step_stood k s at (slot_told (spot_at at i) (drop at s)) (λ n. row k s (i + 1) (at + n))
-    (slot_formed (spot_at at i) (drop at s) (All-drop (λ x. x < 256) at s b)) (λ n. row_stood k s (i + 1) (at + n) b)
-
-step_counted : (k : ℕ) (t : Told) (rest : ℕ → Row) → ((n : ℕ) → length (rest n).0 ≡ k) → length (step k t rest).0 ≡ suc k
-step_counted k (Ok g) rest h = ap suc (h g.1)
-step_counted k (Err f) rest h = length-replicate (suc k) None
+    let r : (n : ℕ) → Stood s (at + n) (row k s (i + 1) (at + n)).0 (row k s (i + 1) (at + n)).1 = λ n. row_stood k s (i + 1) (at + n) b in
+    grind (arith, append_assoc, drop-drop, slot_formed (spot_at at i) (drop at s) (All-drop (λ x. x < 256) at s b), r)
 
 -- with a fault too, k slots are told
 pub row_counted : (k : ℕ) (s : List ℕ) (i at : ℕ) → length (row k s i at).0 ≡ k
 unfolding row
 row_counted zero s i at = refl
-row_counted (suc k) s i at = step_counted k (slot_told (spot_at at i) (drop at s)) (λ n. row k s (i + 1) (at + n)) (λ n. row_counted k s (i + 1) (at + n))
+row_counted (suc k) s i at = grind (arith, length-replicate {A = Slot}, row_counted k s (i + 1))

@@ -1,7 +1,6 @@
 -- A whole sheet is read back as it was written, and was written in the one form that is read.
-use Rattle.std.proofs.Common.{◌≡◌, ℕ, ◌+◌, ◌<◌, ◌≤◌, ltb, List, [], ◌++◌, length, get_or, drop, Ok, Err, Option, Result, sym, refl, ap, ◌∙◌, subst, append-nil, arith, length-append, drop_of_length-le, None}
+use Rattle.std.proofs.Common.{◌≡◌, ℕ, ◌+◌, ◌<◌, ◌≤◌, List, [], length, drop, Ok, Err, Option, Result, sym, refl, ap, ◌∙◌, append-nil, arith, length-append, drop_of_length-le}
 use Rattle.std.proofs.lemmas.List.{drop_at}
-use Rattle.std.proofs.lemmas.Bool.{cond-false, le-ltb}
 use Rattle.std.proofs.lemmas.Bool.Decides.{nat_tests}
 use Rattle.std.specs.List.{flat_map, AllByRecursion}
 use Rattle.units.specs.declared.price.Price.{Price}
@@ -10,15 +9,14 @@ use Rattle.source.specs.Slots.{Slot}
 use Rattle.source.specs.Meanings.{Meaning}
 use Rattle.sheet.specs.declared.fault.RecordFault.{RecordFault}
 use Rattle.sheet.specs.Heads.{head_of, Headed}
-use Rattle.sheet.specs.Rows.{row}
-use Rattle.sheet.specs.Sheets.{closes, closed, slots_from, slots_after, fault_after, net_of, avoided_of, sheet_slots, first_fault, sheet_net, sheet_avoided, sheet_meaning}
+use Rattle.sheet.specs.Sheets.{closes, closed, slots_from, slots_after, fault_after, sheet_slots, first_fault, sheet_net, sheet_avoided, sheet_meaning}
 use Rattle.writing.specs.Bytes.{slot_bytes, row_bytes, head_bytes, sheet_bytes}
 use Rattle.writing.specs.Trips.{Alike, TellsBack, SameBytes}
-use Rattle.writing.proofs.HeadTrips.{bytes_of, head_with, head_back, HeadedAs, headed_as}
+use Rattle.writing.proofs.HeadTrips.{bytes_of, head_with, head_back, headed_as}
 use Rattle.writing.proofs.RowTrips.{slots_of, length_slots, get_or_slots, slots_same, row_joined, row_back, Stood, row_stood, row_counted}
 
 closes_at_end : (s : List ℕ) (end : ℕ) → length s ≤ end → closes s end ≡ Ok tt
-closes_at_end s end h = cond-false (ltb end (length s)) _ _ (le-ltb end (length s) h)
+closes_at_end s end h = grind (arith, nat_tests)
 
 ended : (s : List ℕ) (end : ℕ) → closes s end ≡ Ok tt → length s ≤ end
 ended s end e = grind (arith, nat_tests)
@@ -51,30 +49,16 @@ module _ (m : Meaning) where
 
   no_fault : first_fault sheet ≡ Ok tt
   unfolding first_fault
-  no_fault = ap (fault_after sheet) head_told ∙ (ap (λ r. closed sheet r.1) slots_told ∙ closes_at_end sheet (start + length (flat_map slot_bytes told)) whole)
+  no_fault = grind (arith, nat_tests, head_told, slots_told, whole)
 
   same_slots : sheet_slots sheet ≡ told
   unfolding sheet_slots slots_after
-  same_slots = ap (slots_after sheet) head_told ∙ ap (λ r. r.0) slots_told
-
-  same_net : sheet_net sheet ≡ m.zone
-  unfolding sheet_net
-  same_net = ap net_of head_told
-
-  same_avoided : sheet_avoided sheet ≡ m.avoided
-  unfolding sheet_avoided
-  same_avoided = ap avoided_of head_told
+  same_slots = grind (arith, head_told, slots_told)
 
   -- the written sheet has no fault and tells what was written
   pub tells_back : TellsBack m
-  tells_back = record {
-    sound = no_fault;
-    alike = record {
-      slots = λ k h. ap (λ vs. get_or vs k None) same_slots ∙ get_or_slots m.slots 228 k None h;
-      zones = same_net;
-      values = same_avoided;
-    };
-  }
+  unfolding sheet_net sheet_avoided
+  tells_back = record { sound = no_fault; alike = grind (arith, head_told, same_slots, get_or_slots m.slots 228) }
 
 -- a sheet b without a fault, and a source that means what it tells
 module _ (m : Meaning) (b : List ℕ) (bytes : AllByRecursion (λ x. x < 256) b) (alike : Alike (sheet_meaning b) m) where
@@ -82,23 +66,15 @@ module _ (m : Meaning) (b : List ℕ) (bytes : AllByRecursion (λ x. x < 256) b)
   module _ (net : ZoneNet) (avoided : Option Price) (at : ℕ) (e : head_of b ≡ head_with net avoided at) where
     head_same : bytes_of net avoided ≡ head_bytes m
     unfolding head_bytes sheet_net sheet_avoided
-    head_same =
-        let z : net ≡ m.zone = sym (ap net_of e) ∙ alike.zones in
-        let v : avoided ≡ m.avoided = sym (ap avoided_of e) ∙ alike.values in
-        ap (λ z. bytes_of z avoided) z ∙ ap (bytes_of m.zone) v
+    head_same = grind (arith, e, alike.zones, alike.values)
 
     row_same : flat_map slot_bytes (slots_from b at).0 ≡ row_bytes m.slots 228
     unfolding sheet_slots slots_after slots_from
-    row_same =
-        let s : sheet_slots b ≡ (row 228 b 0 at).0 = ap (slots_after b) e in
-        let l : length (sheet_slots b) ≡ 228 = ap length s ∙ row_counted 228 b 0 at in
-        ap (flat_map slot_bytes) (sym s ∙ slots_same m.slots 228 (sheet_slots b) l alike.slots) ∙ row_joined m.slots 228
+    row_same = grind (arith, e, row_counted 228 b 0 at, slots_same m.slots 228 (sheet_slots b), alike.slots, row_joined m.slots 228)
 
     closed_same : (r : Result ℕ RecordFault) → Stood b at (slots_from b at).0 r → closed b r ≡ Ok tt → drop at b ≡ row_bytes m.slots 228
-    closed_same (Ok end) h c =
-        let d : drop end b ≡ [] = drop_of_length-le b {i = end} (ended b end c) in
-        h ∙ (ap (λ t. flat_map slot_bytes (slots_from b at).0 ++ t) d ∙ (append-nil (flat_map slot_bytes (slots_from b at).0) ∙ row_same))
-    closed_same (Err f) h c = let z : ◌≡◌ {A = ℕ} 0 1 = cc in absurd (omega arith)
+    closed_same (Ok end) h c = grind (arith, nat_tests, drop_of_length-le b {i = end}, append-nil, row_same)
+    closed_same (Err f) h c = cc
 
     rest_same : closed b (slots_from b at).1 ≡ Ok tt → drop at b ≡ row_bytes m.slots 228
     unfolding slots_from
@@ -106,13 +82,11 @@ module _ (m : Meaning) (b : List ℕ) (bytes : AllByRecursion (λ x. x < 256) b)
 
     whole_same : closed b (slots_from b at).1 ≡ Ok tt → sheet_bytes m ≡ b
     unfolding sheet_bytes
-    whole_same c =
-        let h : b ≡ bytes_of net avoided ++ drop at b = subst (HeadedAs b) e (headed_as b bytes) in
-        sym (h ∙ (ap (λ t. t ++ drop at b) head_same ∙ ap (λ t. head_bytes m ++ t) (rest_same c)))
+    whole_same c = grind (arith, e, headed_as b bytes, head_same, rest_same)
 
   by_head : (x : Headed) → head_of b ≡ x → fault_after b x ≡ Ok tt → sheet_bytes m ≡ b
   by_head (Ok h) e c = whole_same h.zone_net h.avoided h.end e c
-  by_head (Err f) e c = let z : ◌≡◌ {A = ℕ} 0 1 = cc in absurd (omega arith)
+  by_head (Err f) e c = cc
 
 -- a sheet without a fault has the bytes that are written of what it tells
 pub same_bytes : (m : Meaning) → SameBytes m

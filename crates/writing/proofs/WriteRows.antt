@@ -1,5 +1,5 @@
 -- The parts of a sheet, put one after another.
-use Rattle.std.proofs.Common.{◌≡◌, ℕ, ◌+◌, ◌≤◌, List, ◌++◌, take, Option, sym, ap, ◌∙◌, append_assoc, append-nil, add-one}
+use Rattle.std.proofs.Common.{◌≡◌, ℕ, ◌+◌, ◌≤◌, List, ◌++◌, take, Option, ap, ◌∙◌, append_assoc, append-nil, add-one, arith}
 use Rattle.std.proofs.lemmas.List.{take_all}
 use Rattle.sheet.specs.Heads.{opening}
 use Rattle.source.specs.Meanings.{Meaning}
@@ -12,19 +12,12 @@ use Rattle.writing.specs.Bytes.{avoided_bytes, head_bytes, number_bytes, row_byt
 pub head_put : (m : Meaning) (i : ℕ) (z : ZoneNet) (o : Option Price) (a b c : List ℕ) → 4 ≤ i → z ≡ m.zone → o ≡ m.avoided
     → a ≡ take i opening → b ≡ a ++ number_bytes z.kw → c ≡ b ++ avoided_bytes o → c ≡ head_bytes m ++ row_bytes m.slots 0
 unfolding head_bytes row_bytes
-head_put m i z o a b c h ez eo x y w =
-    let e : a ≡ opening = x ∙ take_all i opening h in
-    w ∙ (ap (λ t. t ++ avoided_bytes o) (y ∙ ap (λ t. t ++ number_bytes z.kw) e)
-    ∙ (append_assoc opening (number_bytes z.kw) (avoided_bytes o)
-    ∙ (ap (λ n. opening ++ (number_bytes n.kw ++ avoided_bytes o)) ez
-    ∙ (ap (λ p. opening ++ (number_bytes m.zone.kw ++ avoided_bytes p)) eo
-    ∙ sym (append-nil (opening ++ (number_bytes m.zone.kw ++ avoided_bytes m.avoided)))))))
+head_put m i z o a b c h ez eo x y w = grind (arith, append_assoc, append-nil, take_all i opening)
 
 -- one slot more
 pub slot_put : (m : ℕ → Slot) (k : ℕ) (s : Slot) (h a b : List ℕ) → s ≡ m k → a ≡ h ++ row_bytes m k → b ≡ a ++ slot_bytes s → b ≡ h ++ row_bytes m (k + 1)
 unfolding row_bytes
-slot_put m k s h a b e x y =
-    rw add-one (y ∙ (ap (λ t. t ++ slot_bytes s) x ∙ (append_assoc h (row_bytes m k) (slot_bytes s) ∙ ap (λ t. h ++ (row_bytes m k ++ slot_bytes t)) e)))
+slot_put m k s h a b e x y = rw add-one (grind (arith, append_assoc))
 
 pub all_put : (m : Meaning) (k : ℕ) (a : List ℕ) → k ≡ 228 → a ≡ head_bytes m ++ row_bytes m.slots k → a ≡ sheet_bytes m
 unfolding sheet_bytes

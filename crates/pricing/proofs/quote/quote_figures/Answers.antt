@@ -1,6 +1,6 @@
-use Rattle.std.proofs.Common.{Ok, sym, ap, ◌∙◌, subst}
+use Rattle.std.proofs.Common.{arith, Ok, ap, ◌∙◌, subst}
 use Rattle.units.specs.Exact.{exact_of}
-use Rattle.pricing.specs.Bounds.{BoundedBy, KeepsLaws}
+use Rattle.pricing.specs.Bounds.{KeepsLaws}
 use Rattle.pricing.specs.Quotes.{Quotes}
 use Rattle.pricing.proofs.Bounding.{quote_bounded}
 use Rattle.figures.specs.declared.quarter_figures.Figures.{Figures}
@@ -25,8 +25,5 @@ returns-clause-value g c =
 
 pub returns-clause-bounds_kept : goal.returns-clause-bounds_kept
 returns-clause-bounds_kept g c =
-    let f = c.args.figures.now in
     let n = c.nearest_cent.ensures in
-    subst (λ d. BoundedBy d f c.nearest_cent.result) (sym c.from.ensures)
-    (quote_bounded g.R.Rulebook.NET f (g.R.Rulebook.ruling f) c.in-Some.priced.direction (exact_of c.in-Some.priced.price) c.nearest_cent.result (lawful g f)
-    c.in-Some.ensures n.nearest n.between)
+    grind (arith, quote_bounded g.R.Rulebook.NET c.args.figures.now (g.R.Rulebook.ruling c.args.figures.now) c.in-Some.priced.direction (exact_of c.in-Some.priced.price) c.nearest_cent.result (lawful g c.args.figures.now) c.in-Some.ensures n.nearest n.between)

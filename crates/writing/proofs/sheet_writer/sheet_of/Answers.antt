@@ -1,7 +1,6 @@
 use Rattle.std.proofs.Common.{◌≡◌, ◌≤◌, length, ap, ◌∙◌, arith}
 use Rattle.std.proofs.lemmas.List.{take_all}
 use Rattle.sheet.specs.Heads.{opening}
-use Rattle.writing.specs.Bytes.{head_bytes}
 use Rattle.writing.proofs.WriteRows.{all_put, head_put, slot_put}
 use Rattle.writing.proofs.sheet_writer.sheet_of.Goals as goal
 
@@ -18,13 +17,7 @@ loop-slot-init g c =
     }
 
 pub loop-slot-preserved : goal.loop-slot-preserved
-loop-slot-preserved g c =
-    let m = g.S.PriceSource.means c.args.source.now in
-    let p = c.put_slot.ensures in
-    record {
-      written = slot_put m.slots c.loop-slot.slot c.told.result (head_bytes m) _ _ (c.told.ensures (omega arith)) c.loop-slot.invariant.written p.bytes;
-      few = omega (arith, p.len, c.loop-slot.invariant.few);
-    }
+loop-slot-preserved g c = grind (arith, slot_put)
 
 pub returns : goal.returns
-returns g c = all_put (g.S.PriceSource.means c.args.source.now) c.loop-slot.slot _ (omega arith) c.loop-slot.invariant.written
+returns g c = grind (arith, all_put)
