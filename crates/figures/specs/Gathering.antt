@@ -11,7 +11,7 @@ use Rattle.figures.specs.declared.fault.UnreportedSlot.{UnreportedSlot}
 use Rattle.figures.specs.declared.quarter_figures.Figures.{Figures}
 use Rattle.figures.specs.declared.gathering.ManualSlots.{ManualSlots}
 use Rattle.figures.specs.declared.side.Side.{Side}
-use Rattle.figures.specs.declared.tally.Counted.{Counted}
+use Rattle.figures.specs.declared.tally.DirectionTally.{DirectionTally}
 use Rattle.figures.specs.declared.tally.Tally.{Tally}
 use Rattle.figures.specs.declared.weighed.Weighed.{Weighed}
 
@@ -50,7 +50,7 @@ Cycled m (Ok t) = Tallied m 225 225 t × ReportedTo m 225
 Cycled m (Err e) = FirstUnreported m e.slot
 
 -- a direction's figures, of its cycles, its formed prices and the manual slots
-abbrev pub side_from : Direction → Counted → ManualSlots → Side
+abbrev pub side_from : Direction → DirectionTally → ManualSlots → Side
 side_from d c s = record {
   cycles = c.cycles;
   scheduled = manual d s.scheduled;

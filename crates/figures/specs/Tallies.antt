@@ -1,13 +1,16 @@
 -- The sums over the slots that were read so far, one slot at a time: what the private functions of the gathering promise.
-use Rattle.std.specs.Prelude.{◌≡◌, ℕ, ◌*◌, ◌≤◌, pos, ◌+ℤ◌, ◌*ℤ◌, None, unsigned_abs}
+use Rattle.std.specs.Prelude.{◌≡◌, ℕ, ◌*◌, ◌≤◌, pos, ◌+ℤ◌, ◌*ℤ◌, None, Option, unsigned_abs}
 use Rattle.source.specs.Slots.{formed}
 use Rattle.source.specs.declared.direction.Direction.{Direction}
 use Rattle.source.specs.declared.direction.Direction.TheVariants.{Up, Down}
+use Rattle.units.specs.declared.price.Price.{Price}
 use Rattle.figures.specs.Counting.{counted}
 use Rattle.figures.specs.Sides.{Slots, net_to, formed_to, counting_to, joined, none, volume_of}
 use Rattle.figures.specs.Spans.{noted}
+use Rattle.figures.specs.declared.side.Activation.{Activation}
 use Rattle.figures.specs.declared.side.Manual.{Manual}
 use Rattle.figures.specs.declared.side.Totals.{Totals}
+use Rattle.figures.specs.declared.tally.DirectionTally.{DirectionTally}
 use Rattle.figures.specs.declared.tally.Tally.{Tally}
 use Rattle.figures.specs.declared.weighed.Weighed.{Weighed}
 
@@ -21,18 +24,26 @@ manual d w = record { volume = volume_of (counted d w.weight w.reading); price =
 abbrev pub blank : Tally
 blank = record { net = pos 0; up = record { cycles = none; formed = None }; down = record { cycles = none; formed = None } }
 
+-- one price more, where it is formed
+abbrev pub noting_in : Option Price → DirectionTally → DirectionTally
+noting_in p t = record { cycles = t.cycles; formed = noted p t.formed }
+
+-- one cycle more, where it counts
+abbrev pub counting_in : Option Activation → DirectionTally → DirectionTally
+counting_in a t = record { cycles = joined a t.cycles; formed = t.formed }
+
 abbrev pub noting : Weighed → Tally → Tally
 noting w t = record {
   net = t.net +ℤ (pos w.weight *ℤ w.reading.demand.kw);
-  up = record { cycles = t.up.cycles; formed = noted w.reading.up t.up.formed };
-  down = record { cycles = t.down.cycles; formed = noted w.reading.down t.down.formed };
+  up = noting_in w.reading.up t.up;
+  down = noting_in w.reading.down t.down;
 }
 
 abbrev pub counting : Weighed → Tally → Tally
 counting w t = record {
   net = t.net;
-  up = record { cycles = joined (counted Up w.weight w.reading) t.up.cycles; formed = t.up.formed };
-  down = record { cycles = joined (counted Down w.weight w.reading) t.down.cycles; formed = t.down.formed };
+  up = counting_in (counted Up w.weight w.reading) t.up;
+  down = counting_in (counted Down w.weight w.reading) t.down;
 }
 
 -- the first n slots are noted, and the first c of them counted

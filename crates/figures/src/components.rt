@@ -148,16 +148,16 @@ impl Figures {
     pub fn counting_manual(&self, direction: Direction) -> Option<Ratio>
         ensures { component_of result ≡ over_manual counting_price direction (side_in direction self.now) }
     {
-        self.side(direction)
-            .over_manual(direction, Manual::counting_price)
+        let side = self.side(direction);
+        side.over_manual(direction, Manual::counting_price)
     }
 
     /// The extreme of the formed manual prices, whatever their demand.
     pub fn formed_manual(&self, direction: Direction) -> Option<Ratio>
         ensures { component_of result ≡ over_manual formed_price direction (side_in direction self.now) }
     {
-        self.side(direction)
-            .over_manual(direction, Manual::formed_price)
+        let side = self.side(direction);
+        side.over_manual(direction, Manual::formed_price)
     }
 
     /// Whether a manual slot counts.

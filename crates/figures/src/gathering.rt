@@ -5,7 +5,7 @@ ghost use Rattle.figures.specs.Gathering.{CountsShown, Cycled, Figured, Weighs, 
 use crate::fault::UnreportedSlot;
 use crate::quarter_figures::Figures;
 use crate::side::Side;
-use crate::tally::{Counted, Tally};
+use crate::tally::{DirectionTally, Tally};
 use crate::weighed::Weighed;
 use source::direction::Direction;
 use source::price_source::PriceSource;
@@ -53,15 +53,15 @@ struct ManualSlots {
 }
 
 impl ManualSlots {
-    fn side(self, direction: Direction, counted: Counted) -> Side
-        ensures { result ≡ side_from direction counted self }
+    fn side(self, direction: Direction, tally: DirectionTally) -> Side
+        ensures { result ≡ side_from direction tally self }
     {
         Side {
-            cycles: counted.cycles,
+            cycles: tally.cycles,
             scheduled: self.scheduled.manual(direction),
             direct_up: self.direct_up.manual(direction),
             direct_down: self.direct_down.manual(direction),
-            formed: counted.formed,
+            formed: tally.formed,
         }
     }
 }

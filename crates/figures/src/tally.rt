@@ -2,16 +2,17 @@
 ghost use Rattle.std.specs.Prelude.{◌≡◌, ◌*◌, ◌≤◌, pos, ◌*ℤ◌, unsigned_abs};
 ghost use Rattle.figures.specs.Counting.{counted, demand_in};
 ghost use Rattle.figures.specs.Sides.{joined, volume_of};
-ghost use Rattle.figures.specs.Tallies.{Room, blank, counting, manual, noting};
+ghost use Rattle.figures.specs.Tallies.{Room, blank, counting, counting_in, manual, noting, noting_in};
 
 use crate::side::{Activation, Manual, Totals};
 use crate::span::Span;
 use crate::weighed::Weighed;
 use source::direction::Direction;
+use units::price::Price;
 
 // Of one direction the totals of the cycles counted, and the formed prices of the slots noted.
 #[derive(Clone, Copy)]
-pub(crate) struct Counted {
+pub(crate) struct DirectionTally {
     pub(crate) cycles: Totals,
     pub(crate) formed: Option<Span>,
 }
@@ -20,8 +21,8 @@ pub(crate) struct Counted {
 #[derive(Clone, Copy)]
 pub(crate) struct Tally {
     pub(crate) net: i64,
-    pub(crate) up: Counted,
-    pub(crate) down: Counted,
+    pub(crate) up: DirectionTally,
+    pub(crate) down: DirectionTally,
 }
 
 impl Weighed {
@@ -44,7 +45,7 @@ impl Weighed {
         self.weight as i64 * self.reading.demand.kw()
     }
 
-    fn counted(self, direction: Direction) -> Option<Activation>
+    fn activation(self, direction: Direction) -> Option<Activation>
         ensures value { result ≡ counted direction self.weight self.reading }
         ensures small { volume_of result ≤ 2_250_000_000 }
     {
@@ -62,7 +63,9 @@ impl Weighed {
         ensures { result ≡ manual direction self }
     {
         Manual {
-            volume: self.counted(direction).map_or(0, |counted| counted.volume),
+            volume: self
+                .activation(direction)
+                .map_or(0, |activation| activation.volume),
             price: self.reading.formed(direction),
         }
     }
@@ -85,11 +88,35 @@ impl Totals {
     }
 }
 
+impl DirectionTally {
+    // One price more, where it is formed.
+    fn noting(self, price: Option<Price>) -> DirectionTally
+        ensures { result ≡ noting_in price self }
+    {
+        DirectionTally {
+            cycles: self.cycles,
+            formed: Span::noting(self.formed, price),
+        }
+    }
+
+    // One cycle more, where it counts.
+    fn counting(self, activation: Option<Activation>) -> DirectionTally
+        requires room { Room self.cycles }
+        requires small { volume_of activation ≤ 2_250_000_000 }
+        ensures { result ≡ counting_in activation self }
+    {
+        DirectionTally {
+            cycles: self.cycles.with(activation),
+            formed: self.formed,
+        }
+    }
+}
+
 impl Tally {
     pub(crate) fn blank() -> Tally
         ensures { result ≡ blank }
     {
-        let blank = Counted {
+        let blank = DirectionTally {
             cycles: Totals {
                 volume: 0,
                 value: 0,
@@ -111,14 +138,8 @@ impl Tally {
     {
         Tally {
             net: self.net + slot.energy(),
-            up: Counted {
-                cycles: self.up.cycles,
-                formed: Span::noting(self.up.formed, slot.reading.up),
-            },
-            down: Counted {
-                cycles: self.down.cycles,
-                formed: Span::noting(self.down.formed, slot.reading.down),
-            },
+            up: self.up.noting(slot.reading.up),
+            down: self.down.noting(slot.reading.down),
         }
     }
 
@@ -130,14 +151,8 @@ impl Tally {
     {
         Tally {
             net: self.net,
-            up: Counted {
-                cycles: self.up.cycles.with(cycle.counted(Direction::Up)),
-                formed: self.up.formed,
-            },
-            down: Counted {
-                cycles: self.down.cycles.with(cycle.counted(Direction::Down)),
-                formed: self.down.formed,
-            },
+            up: self.up.counting(cycle.activation(Direction::Up)),
+            down: self.down.counting(cycle.activation(Direction::Down)),
         }
     }
 }

@@ -16,7 +16,8 @@ use Rattle.source.specs.declared.direction.Direction.{Direction}
 use Rattle.source.specs.declared.direction.Direction.TheVariants.{Up, Down}
 use Rattle.units.specs.Exact.{Exact, whole}
 use Rattle.pricing.specs.Laws.{BeyondMean, Follows, FromFormed, Heeds, Within}
-use Rattle.pricing.specs.Outcomes.{avoided, decided, decided_in, outcome_at, toward}
+use Rattle.pricing.specs.Outcomes.{avoided, decided, decided_in, outcome_at}
+use Rattle.source.specs.Directions.{toward}
 use Rattle.pricing.specs.Rulings.{Pricing, automatic_or_manual, extreme_counting, finnish_price, mean_or_manual, mean_price}
 use Rattle.pricing.specs.Covers.{Covers, covers_add, covers_cycles, covers_manual, covers_none, covers_quotient, no_value}
 use Rattle.pricing.specs.Fits.{automatic_fits, counting_fits, cycles_fit, formed_fits, mean_fits, over_fits}

@@ -7,7 +7,8 @@ use Rattle.figures.specs.declared.span.Span.{Span}
 use Rattle.source.specs.declared.direction.Direction.{Direction}
 use Rattle.source.specs.declared.direction.Direction.TheVariants.{Up, Down}
 use Rattle.units.specs.Exact.{Exact}
-use Rattle.pricing.specs.Outcomes.{Outcome, avoided, priced, toward}
+use Rattle.pricing.specs.Outcomes.{Outcome, avoided, priced}
+use Rattle.source.specs.Directions.{toward}
 
 -- 1: above 0 the deciding net gives up or avoided, below 0 down or avoided, at 0 avoided
 abbrev pub Follows : ℤ → Outcome → Type 0

@@ -2,6 +2,7 @@
 use Rattle.std.specs.Prelude.{cond, ℤ, pos, Some, None, Option, int_lt}
 use Rattle.figures.specs.Components.{Component}
 use Rattle.figures.specs.declared.quarter_figures.Figures.{Figures}
+use Rattle.source.specs.Directions.{toward}
 use Rattle.source.specs.declared.direction.Direction.{Direction}
 use Rattle.source.specs.declared.direction.Direction.TheVariants.{Up, Down}
 use Rattle.units.specs.Exact.{Exact, exact_of}
@@ -21,10 +22,6 @@ outcome_of (Some p) = priced p.direction (exact_of p.price)
 abbrev pub net_of : Net → Figures → ℤ
 net_of Local f = f.local_net
 net_of Zone f = f.zone_net.kw
-
--- the direction of a net, none where it is 0
-abbrev pub toward : ℤ → Option Direction
-toward z = cond (int_lt (pos 0) z) (Some Up) (cond (int_lt z (pos 0)) (Some Down) None)
 
 -- where no component exists, the result is avoided
 abbrev pub outcome_at : Direction → Component → Outcome

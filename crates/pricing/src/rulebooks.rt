@@ -2,7 +2,6 @@
 ghost use Rattle.std.specs.Prelude.{◌≡◌};
 ghost use Rattle.figures.specs.Components.{side_in};
 ghost use Rattle.pricing.specs.declared.ruling.Net.TheVariants.{Local, Zone};
-ghost use Rattle.pricing.specs.Outcomes.{toward};
 ghost use Rattle.pricing.specs.Rulings.{combined_all, combined_automatic, finnish, max_min, weighted_average, mean_price, automatic_or_manual, mean_or_manual, extreme_counting, finnish_price};
 ghost use Rattle.pricing.specs.Lawful.{follows, heeds, mean_lawful, from_formed, beyond_mean, automatic_lawful, combined_lawful, extreme_lawful, finnish_lawful};
 
@@ -11,16 +10,6 @@ use crate::ruling::{Net, Priced, Ruling};
 use figures::components::extreme_of;
 use figures::quarter_figures::Figures;
 use source::direction::Direction;
-
-fn direction_of(net: i64) -> Option<Direction>
-    ensures { result ≡ toward net }
-{
-    match net {
-        1.. => Some(Direction::Up),
-        0 => None,
-        _ => Some(Direction::Down),
-    }
-}
 
 /// Code 1: the volume-weighted average.
 #[derive(Clone, Copy)]
@@ -46,7 +35,7 @@ impl Rulebook for WeightedAverage {
     ghost mean = { λ f. beyond_mean mean_price mean_lawful f.local_net f };
 
     fn decide(&self, figures: &Figures) -> Ruling {
-        let direction = direction_of(figures.local_net)?;
+        let direction = Direction::of_net(figures.local_net)?;
         let price = figures.weighted_mean(direction)?;
         Some(Priced { direction, price })
     }
@@ -76,7 +65,7 @@ impl Rulebook for CombinedAutomatic {
     ghost mean = { λ f. beyond_mean automatic_or_manual automatic_lawful f.local_net f };
 
     fn decide(&self, figures: &Figures) -> Ruling {
-        let direction = direction_of(figures.local_net)?;
+        let direction = Direction::of_net(figures.local_net)?;
         let manual = figures.counting_manual(direction);
         let price = extreme_of(direction, figures.automatic_mean(direction), manual)?;
         Some(Priced { direction, price })
@@ -107,7 +96,7 @@ impl Rulebook for CombinedAll {
     ghost mean = { λ f. beyond_mean mean_or_manual combined_lawful f.local_net f };
 
     fn decide(&self, figures: &Figures) -> Ruling {
-        let direction = direction_of(figures.local_net)?;
+        let direction = Direction::of_net(figures.local_net)?;
         let manual = figures.counting_manual(direction);
         let price = extreme_of(direction, figures.weighted_mean(direction), manual)?;
         Some(Priced { direction, price })
@@ -138,7 +127,7 @@ impl Rulebook for MaxMin {
     ghost mean = { λ f. beyond_mean extreme_counting extreme_lawful f.local_net f };
 
     fn decide(&self, figures: &Figures) -> Ruling {
-        let direction = direction_of(figures.local_net)?;
+        let direction = Direction::of_net(figures.local_net)?;
         let manual = figures.counting_manual(direction);
         let price = extreme_of(direction, figures.counting_cycles(direction), manual)?;
         Some(Priced { direction, price })
@@ -169,11 +158,11 @@ impl Rulebook for Finnish {
     ghost mean = { λ f. beyond_mean finnish_price finnish_lawful f.zone_net.kw f };
 
     fn decide(&self, figures: &Figures) -> Ruling {
-        let direction = direction_of(figures.zone_net.kw())?;
-        let price = match figures.automatic_mean(direction) {
-            _ if figures.manual_counts(direction) => figures.weighted_mean(direction),
-            mean => extreme_of(direction, mean, figures.formed_manual(direction)),
+        let direction = Direction::of_net(figures.zone_net.kw())?;
+        let price = match figures.formed_manual(direction) {
+            _ if figures.manual_counts(direction) => figures.weighted_mean(direction)?,
+            formed => extreme_of(direction, figures.automatic_mean(direction), formed)?,
         };
-        price.map(|price| Priced { direction, price })
+        Some(Priced { direction, price })
     }
 }

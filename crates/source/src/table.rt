@@ -10,8 +10,8 @@ use units::price::Price;
 use units::quantity::Quantity;
 use units::zone_net::ZoneNet;
 
-/// What telemetry has of a slot: kW, and cents per MWh where a price is formed.
-#[derive(Clone, Copy)]
+/// What telemetry has of a slot: kW, and cents per MWh where a price is formed. By default there is no demand and no price.
+#[derive(Clone, Copy, Default)]
 pub struct Row {
     pub demand: i64,
     pub up: Option<i64>,

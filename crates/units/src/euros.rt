@@ -1,13 +1,24 @@
 // Cents printed as euros.
 ghost use Rattle.units.specs.Text.{euros};
-ghost use Rattle.std.specs.Prelude.{Some};
+ghost use Rattle.std.specs.Prelude.{◌≡◌, Some};
 
+use crate::price::Price;
 use std::fmt;
 
 /// An amount of cents, shown in euros with two decimals.
 #[derive(Clone, Copy)]
 pub struct Amount {
     pub cents: i64,
+}
+
+impl From<Price> for Amount {
+    ghost from_gives = { λ p a. a.cents ≡ p.cents };
+
+    fn from(price: Price) -> Amount {
+        Amount {
+            cents: price.cents(),
+        }
+    }
 }
 
 impl fmt::Display for Amount {

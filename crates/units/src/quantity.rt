@@ -25,7 +25,7 @@ pub(crate) fn within<const LIMIT: u32>(number: i64, beyond: OutOfBounds) -> Resu
     ensures value { result ≡ within LIMIT beyond number }
     ensures same { IfOk result (λ n. n ≡ number) }
 {
-    if number.unsigned_abs() > LIMIT as u64 {
+    if number.unsigned_abs() > u64::from(LIMIT) {
         return Err(beyond);
     }
     Ok(number as i32)

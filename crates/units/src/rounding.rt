@@ -23,7 +23,7 @@ impl Ratio {
     pub fn at_most(self, other: Ratio) -> bool
         ensures { result ≡ at_most (exact_of self) (exact_of other) }
     {
-        self.n as i128 * other.d as i128 <= other.n as i128 * self.d as i128
+        i128::from(self.n) * i128::from(other.d) <= i128::from(other.n) * i128::from(self.d)
     }
 
     // The nearest whole number, by signed division: the remainder has the sign of `n`.
