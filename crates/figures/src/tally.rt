@@ -50,13 +50,9 @@ impl Weighed {
         ensures small { volume_of result ≤ 2_250_000_000 }
     {
         let size = self.demand_in(direction);
-        match self.reading.formed(direction) {
-            Some(price) if size > 0 => Some(Activation {
-                volume: self.weight * size,
-                price,
-            }),
-            _ => None,
-        }
+        let volume = self.weight * size;
+        let price = self.reading.formed(direction).filter(|_| size > 0);
+        price.map(|price| Activation { volume, price })
     }
 
     pub(crate) fn manual(self, direction: Direction) -> Manual
@@ -77,13 +73,13 @@ impl Totals {
         requires small { volume_of activation ≤ 2_250_000_000 }
         ensures { result ≡ joined activation self }
     {
-        match activation {
-            None => self,
-            Some(a) => Totals {
-                volume: self.volume + a.volume,
-                value: self.value + a.volume as i64 * a.price.cents(),
-                span: Some(Span::with(self.span, a.price)),
-            },
+        let Some(added) = activation else {
+            return self;
+        };
+        Totals {
+            volume: self.volume + added.volume,
+            value: self.value + added.volume as i64 * added.price.cents(),
+            span: Some(Span::with(self.span, added.price)),
         }
     }
 }

@@ -8,18 +8,18 @@ use Rattle.figures.proofs.side.Totals.with.Goals as goal
 pub overflow_mul-result : goal.overflow_mul-result
 overflow_mul-result c = grind (arith, ints, to_z-of_z, to_z_pos, product_within)
 
-pub overflow_add-result-in-Some : goal.overflow_add-result-in-Some
-overflow_add-result-in-Some c =
-    let h = product_within c.in-Some.a.volume 9_999_900 c.in-Some.a.price.cents c.in-Some.a.price.bounded in
+pub overflow_add-result-2 : goal.overflow_add-result-2
+overflow_add-result-2 c =
+    let h = product_within c.in-Some.added.volume 9_999_900 c.in-Some.added.price.cents c.in-Some.added.price.bounded in
     grind (arith, ints, to_z-of_z, to_z_pos)
 
-pub returns-in-Some : goal.returns-in-Some
-returns-in-Some c =
-    let v = c.in-Some.a.volume in
-    let p = c.in-Some.a.price.cents in
-    let h = product_within v 9_999_900 p c.in-Some.a.price.bounded in
+pub returns : goal.returns
+returns c =
+    let v = c.in-Some.added.volume in
+    let p = c.in-Some.added.price.cents in
+    let h = product_within v 9_999_900 p c.in-Some.added.price.bounded in
     let w : v ≤ 2_250_000_000 = subst (λ o. volume_of o ≤ 2_250_000_000) c.in-Some.is c.requires.small in
     let s : to_z w64 v ≡ pos v = omega (arith, ints) in
     let t : to_z w64 (of_z w64 c.cents.result) ≡ p = omega (arith, ints) in
     let e : to_z w64 v *ℤ to_z w64 (of_z w64 c.cents.result) ≡ pos v *ℤ p = ap (λ z. z *ℤ to_z w64 (of_z w64 c.cents.result)) s ∙ ap (λ z. pos v *ℤ z) t in
-    totals_same _ (joined (Some c.in-Some.a) c.args.self) refl (sum_kept c.args.self.value _ (pos v *ℤ p) e (omega arith) (omega arith)) (ap Some c.with.ensures) ∙ ap (λ o. joined o c.args.self) (sym c.in-Some.is)
+    totals_same _ (joined (Some c.in-Some.added) c.args.self) refl (sum_kept c.args.self.value _ (pos v *ℤ p) e (omega arith) (omega arith)) (ap Some c.with.ensures) ∙ ap (λ o. joined o c.args.self) (sym c.in-Some.is)
