@@ -45,9 +45,7 @@ impl fmt::Display for Filed {
             return write!(f, "blank");
         };
         let direction = quote.direction;
-        let euros = Amount {
-            cents: quote.price.cents(),
-        };
+        let euros = Amount::from(quote.price);
         write!(f, "code {}, {direction} {euros} EUR/MWh", quote.code)
     }
 }

@@ -9,24 +9,18 @@ pub(crate) struct Told {
     pub zone_net: i64,
 }
 
-const IDLE: Row = Row {
-    demand: 0,
-    up: None,
-    down: None,
-};
-
 /// 15:00 to 15:45. The note's MWh are kW times a quarter of an hour, prices are cents per MWh.
 pub(crate) const QUARTERS: [Told; 4] = [
     Told {
         cycle: Row {
             demand: 80_000,
             up: Some(10_000),
-            ..IDLE
+            ..Row::IDLE
         },
         scheduled: Row {
             demand: 200_000,
             up: Some(5_000),
-            ..IDLE
+            ..Row::IDLE
         },
         zone_net: 200_000,
     },
@@ -34,7 +28,7 @@ pub(crate) const QUARTERS: [Told; 4] = [
         cycle: Row {
             demand: -80_000,
             down: Some(2_000),
-            ..IDLE
+            ..Row::IDLE
         },
         scheduled: Row {
             demand: -120_000,
@@ -47,7 +41,7 @@ pub(crate) const QUARTERS: [Told; 4] = [
         cycle: Row {
             demand: -120_000,
             down: Some(4_000),
-            ..IDLE
+            ..Row::IDLE
         },
         scheduled: Row {
             demand: 200_000,
@@ -60,12 +54,12 @@ pub(crate) const QUARTERS: [Told; 4] = [
         cycle: Row {
             demand: 200_000,
             up: Some(5_000),
-            ..IDLE
+            ..Row::IDLE
         },
         scheduled: Row {
             demand: 0,
             up: Some(10_000),
-            ..IDLE
+            ..Row::IDLE
         },
         zone_net: 400_000,
     },
@@ -76,8 +70,8 @@ impl Told {
     pub(crate) fn rows(&self) -> [Row; 228] {
         let mut rows = [self.cycle; 228];
         rows[225] = self.scheduled;
-        rows[226] = IDLE;
-        rows[227] = IDLE;
+        rows[226] = Row::IDLE;
+        rows[227] = Row::IDLE;
         rows
     }
 }

@@ -24,9 +24,7 @@ impl fmt::Display for Line {
         match self.answer {
             Ok(quote) => {
                 let direction = quote.direction;
-                let euros = Amount {
-                    cents: quote.price.cents(),
-                };
+                let euros = Amount::from(quote.price);
                 write!(f, "{code} {direction} {euros}\n")
             }
             Err(fault) => {

@@ -33,11 +33,7 @@ impl Rulebook for ZoneAverage {
     ghost mean = { λ f. beyond_mean mean_price mean_lawful f.zone_net.kw f };
 
     fn decide(&self, figures: &Figures) -> Ruling {
-        let direction = match figures.zone_net.kw() {
-            1.. => Direction::Up,
-            0 => return None,
-            _ => Direction::Down,
-        };
+        let direction = Direction::of_net(figures.zone_net.kw())?;
         let price = figures.weighted_mean(direction)?;
         Some(Priced { direction, price })
     }

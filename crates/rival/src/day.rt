@@ -82,11 +82,7 @@ impl Day {
 
     /// Prices a quarter without demand, whose price is then the avoided value.
     pub(crate) fn price(&mut self, period: usize, cents: i64) -> Replies {
-        let rows = [Row {
-            demand: 0,
-            up: None,
-            down: None,
-        }; SLOTS];
+        let rows = [Row::IDLE; SLOTS];
         let table = Table {
             rows: &rows,
             zone_net: ZoneNet::zero(),

@@ -65,6 +65,10 @@ impl Reader<'_> {
         Ok(())
     }
 
+    fn demand(&mut self) -> Result<Option<i64>, Fault> {
+        self.number(DEMAND).map(Some)
+    }
+
     fn price(&mut self) -> Result<Option<i64>, Fault> {
         self.number(PRICE).map(Some)
     }
@@ -80,22 +84,29 @@ impl Reader<'_> {
 
     fn slot(&mut self) -> Result<Plain, Fault> {
         let place = self.at;
-        let lead = self.byte()?;
-        if lead > 4 {
-            return Err(Refusal::UnknownByte.at(place));
+        match self.byte()? {
+            0 => Ok(UNREPORTED),
+            1 => Ok(Plain {
+                kw: self.demand()?,
+                ..IDLE
+            }),
+            2 => Ok(Plain {
+                kw: self.demand()?,
+                up: self.price()?,
+                down: None,
+            }),
+            3 => Ok(Plain {
+                kw: self.demand()?,
+                up: None,
+                down: self.price()?,
+            }),
+            4 => Ok(Plain {
+                kw: self.demand()?,
+                up: self.price()?,
+                down: self.price()?,
+            }),
+            _ => Err(Refusal::UnknownByte.at(place)),
         }
-        if lead == 0 {
-            return Ok(UNREPORTED);
-        }
-        let mut slot = IDLE;
-        slot.kw = Some(self.number(DEMAND)?);
-        if lead == 2 || lead == 4 {
-            slot.up = self.price()?;
-        }
-        if lead > 2 {
-            slot.down = self.price()?;
-        }
-        Ok(slot)
     }
 
     fn end(&self) -> Result<(), Fault> {

@@ -40,7 +40,7 @@ impl Writer {
             _ => 4,
         };
         self.bytes.push(lead)?;
-        if lead > 0 {
+        if slot.kw.is_some() {
             self.number_if_any(slot.kw)?;
             self.number_if_any(slot.up)?;
             self.number_if_any(slot.down)?;

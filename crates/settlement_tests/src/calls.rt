@@ -18,11 +18,7 @@ pub(crate) fn price(
     slots: usize,
     cents: Option<i64>,
 ) -> Result<Quarter, BookFault> {
-    let rows = [Row {
-        demand: 0,
-        up: None,
-        down: None,
-    }; 228];
+    let rows = [Row::IDLE; 228];
     let table = Table {
         rows: &rows[..slots.min(228)],
         zone_net: ZoneNet::zero(),

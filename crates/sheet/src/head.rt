@@ -41,6 +41,7 @@ fn check_opening(sheet: &[u8]) -> Result<(), SheetFault>
 }
 
 // The avoided value by the flag at `at`, and the place after it.
+#[tactic(auto, unfolding(crate::specs::Heads::avoided_at))]
 fn read_avoided(sheet: &[u8], at: usize) -> Result<(Option<Price>, usize), SheetFault>
     ensures reads { result ≡ avoided_at sheet.now at }
     ensures within { IfOk result (λ p. p.1 ≤ length sheet.now) }
@@ -62,6 +63,7 @@ fn read_avoided(sheet: &[u8], at: usize) -> Result<(Option<Price>, usize), Sheet
 
 impl Head {
     /// The head of a sheet, or the first fault in it.
+    #[tactic(auto, unfolding(crate::specs::Heads::head_of))]
     pub fn read(sheet: &[u8]) -> Result<Head, SheetFault>
         ensures reads { result ≡ head_of sheet.now }
         ensures within { IfOk result (λ h. h.end ≤ length sheet.now) }

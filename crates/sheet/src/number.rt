@@ -15,23 +15,26 @@ pub(crate) fn read_groups(s: &[u8]) -> Result<(u32, usize), GroupsFault>
 {
     match s {
         [] => Err(GroupsFault::Ends),
-        [a, ..] if *a < 128 => Ok((*a as u32, 1)),
+        [a, ..] if *a < 128 => Ok((u32::from(*a), 1)),
         [_] => Err(GroupsFault::Ends),
         [_, 0, ..] => Err(GroupsFault::Form),
-        [a, b, ..] if *b < 128 => Ok((*a as u32 - 128 + 128 * *b as u32, 2)),
+        [a, b, ..] if *b < 128 => Ok((u32::from(*a) - 128 + 128 * u32::from(*b), 2)),
         [_, _] => Err(GroupsFault::Ends),
         [_, _, 0, ..] => Err(GroupsFault::Form),
         [a, b, c, ..] if *c < 128 => {
             Ok((
-                *a as u32 - 128 + 128 * (*b as u32 - 128) + 16384 * *c as u32,
+                u32::from(*a) - 128 + 128 * (u32::from(*b) - 128) + 16384 * u32::from(*c),
                 3,
             ))
         }
         [_, _, _] => Err(GroupsFault::Ends),
         [_, _, _, 0 | 128.., ..] => Err(GroupsFault::Form),
         [a, b, c, d, ..] => {
-            let low = *a as u32 - 128 + 128 * (*b as u32 - 128);
-            Ok((low + 16384 * (*c as u32 - 128) + 2097152 * *d as u32, 4))
+            let low = u32::from(*a) - 128 + 128 * (u32::from(*b) - 128);
+            Ok((
+                low + 16384 * (u32::from(*c) - 128) + 2097152 * u32::from(*d),
+                4,
+            ))
         }
     }
 }
@@ -40,8 +43,8 @@ pub(crate) fn unfold_sign(u: u32) -> i64
     ensures { result ≡ unfolded u }
 {
     if u % 2 == 0 {
-        (u / 2) as i64
+        i64::from(u / 2)
     } else {
-        -((u / 2) as i64) - 1
+        -i64::from(u / 2) - 1
     }
 }

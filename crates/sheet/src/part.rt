@@ -18,6 +18,7 @@ impl Part<'_> {
     // The number that begins at the byte `from`, and where it ends. A call that is not inlined stores the part and loads
     // it again.
     #[inline(always)]
+    #[tactic(auto, unfolding(crate::specs::Numbers::quantity))]
     pub(crate) fn quantity<Q: Quantity>(&self, from: usize) -> Result<(Q, usize), NumberFault>
         requires { from ≤ length self.now.bytes.now }
         ensures reads { result ≡ quantity Q.Quantity.made self.now.start self.now.bytes.now from }
@@ -28,8 +29,8 @@ impl Part<'_> {
             slot: self.start.slot,
         };
         match read_groups(&self.bytes[from..]) {
-            Ok((u, n)) => match Q::new(unfold_sign(u)) {
-                Ok(q) => Ok((q, from + n)),
+            Ok((stored, size)) => match Q::new(unfold_sign(stored)) {
+                Ok(quantity) => Ok((quantity, from + size)),
                 Err(_) => Err(NumberFault::Bounds(spot)),
             },
             Err(GroupsFault::Ends) => Err(NumberFault::Ends(Spot {

@@ -24,6 +24,7 @@ impl<'a> Reader<'a> {
     }
 
     /// The record of the next slot; after slot 227 none, or the fault that bytes are left.
+    #[tactic(auto, unfolding(crate::specs::Readers::found))]
     pub fn next(&mut self) -> Result<Option<Record<'a>>, SheetFault>
         ensures answers { shown_of result ≡ answer (standing self.old) }
         ensures moves { standing self.new ≡ after (standing self.old) }

@@ -27,6 +27,7 @@ pub struct Sheet<'a> {
 
 impl<'a> Sheet<'a> {
     /// The sheet of any bytes, decoded once.
+    #[tactic(auto, unfolding(crate::specs::Sheets::sheet_slots, crate::specs::Sheets::sheet_net, crate::specs::Sheets::sheet_avoided, crate::specs::Sheets::first_fault, crate::specs::Sheets::slots_after))]
     pub fn read(bytes: &'a [u8]) -> Sheet<'a>
         ensures { result.bytes.now ≡ bytes.now }
     {

@@ -43,6 +43,7 @@ fn reported(demand: Demand, up: Option<Price>, down: Option<Price>) -> Slot
 
 impl Part<'_> {
     // A demand and the price after it, and where they end.
+    #[tactic(auto, unfolding(crate::specs::Records::pair))]
     fn pair(&self) -> Result<(Demand, Price, usize), NumberFault>
         ensures reads { result ≡ pair self.now.start self.now.bytes.now }
         ensures within { IfOk result (λ p. p.2 ≤ length self.now.bytes.now) }
@@ -53,6 +54,7 @@ impl Part<'_> {
     }
 
     // What the record at the front tells, and how many bytes it has.
+    #[tactic(auto, using(crate::proofs::Leads::slot_led), unfolding(crate::specs::Records::by_lead))]
     pub(crate) fn record(&self) -> Result<(Slot, usize), RecordFault>
         ensures reads { result ≡ slot_told self.now.start self.now.bytes.now }
         ensures within { IfOk result (λ p. (1 ≤ p.1) × (p.1 ≤ length self.now.bytes.now)) }

@@ -10,8 +10,8 @@ use units::price::Price;
 use units::quantity::Quantity;
 use units::zone_net::ZoneNet;
 
-/// What telemetry has of a slot: kW, and cents per MWh where a price is formed. By default there is no demand and no price.
-#[derive(Clone, Copy, Default)]
+/// What telemetry has of a slot: kW, and cents per MWh where a price is formed.
+#[derive(Clone, Copy)]
 pub struct Row {
     pub demand: i64,
     pub up: Option<i64>,
@@ -25,6 +25,13 @@ fn price_if_any(cents: Option<i64>) -> Result<Option<Price>, OutOfBounds>
 }
 
 impl Row {
+    /// No demand and no price.
+    pub const IDLE: Row = Row {
+        demand: 0,
+        up: None,
+        down: None,
+    };
+
     /// The slot that the row tells: unreported where one of its numbers is out of bounds.
     pub fn slot(self) -> Slot
         ensures { result ≡ row_slot self }

@@ -10,12 +10,6 @@ use units::quantity::Quantity;
 use units::refusal::Refusal;
 use units::zone_net::ZoneNet;
 
-pub(crate) const IDLE: Row = Row {
-    demand: 0,
-    up: None,
-    down: None,
-};
-
 fn refused<Q: Drop>(made: Result<Q, OutOfBounds>, place: usize) -> bool {
     made.is_err_and(|fault| fault.number() == 5 && fault.place() == place)
 }
@@ -45,15 +39,15 @@ fn rows(rt: HostRuntime) {
     let beyond = [
         Row {
             demand: -10_000_001,
-            ..IDLE
+            ..Row::IDLE
         },
         Row {
             up: Some(9_999_901),
-            ..IDLE
+            ..Row::IDLE
         },
         Row {
             down: Some(-9_999_901),
-            ..IDLE
+            ..Row::IDLE
         },
         Row {
             demand: i64::MIN,
@@ -102,7 +96,10 @@ fn missing_rows(rt: HostRuntime) {
 // A cycle with demand and no price takes the avoided value, a manual slot does not, and a fill over a fill adds nothing.
 #[test]
 fn filled(rt: HostRuntime) -> Result<(), Fail> {
-    let rows = [Row { demand: 5, ..IDLE }; 228];
+    let rows = [Row {
+        demand: 5,
+        ..Row::IDLE
+    }; 228];
     let fill = NettingFill {
         below: table(&rows, Some(Price::new(4_000)?)),
     };

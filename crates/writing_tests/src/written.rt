@@ -1,5 +1,4 @@
 // Sheets written from sources, and read again.
-use crate::sources::IDLE;
 use sheet::sheet::Sheet;
 use source::netting_fill::NettingFill;
 use source::price_source::PriceSource;
@@ -52,21 +51,21 @@ fn round_trip(rt: HostRuntime) -> Result<(), Fail> {
     }; 228];
     rows[0] = Row {
         demand: 10_000_000,
-        ..IDLE
+        ..Row::IDLE
     };
     rows[1] = Row {
         demand: 1,
         up: Some(63),
-        ..IDLE
+        ..Row::IDLE
     };
     rows[2] = Row {
         demand: -1,
         down: Some(-64),
-        ..IDLE
+        ..Row::IDLE
     };
     rows[3] = Row {
         demand: i64::MAX,
-        ..IDLE
+        ..Row::IDLE
     };
     let table = Table {
         rows: &rows,

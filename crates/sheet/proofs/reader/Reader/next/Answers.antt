@@ -5,10 +5,6 @@ use Rattle.sheet.specs.Readers.{found}
 use Rattle.sheet.proofs.Views.{shown_view}
 use Rattle.sheet.proofs.reader.Reader.next.Goals as goal
 
-pub returns-in_err-told : goal.returns-in_err-told
-unfolding found
-returns-in_err-told c = grind (arith, nat_tests, between_to_end)
-
 pub returns : goal.returns
 unfolding found
 returns c = grind (arith, nat_tests, between_to_end, shown_view)
