@@ -20,11 +20,6 @@ volumes_long b q l =
     at_party (λ p. vec_items p.volumes) (λ v. length v ≡ vec_len b.quarters) (vec_items b.parties) q [] (omega (arith, l, b.parties.ok.0))
     (λ k d m. sym (get_or (vec_items b.parties) k d).volumes.ok.0 ∙ b.metered k d m)
 
-pub paid_small : (b : Book) (q : ℕ) → q < vec_len b.parties → nat_abs (paid_to b q).cents ≤ 15_000_000_000_000
-paid_small b q l =
-    at_party (λ p. p.paid) (λ x. nat_abs x.cents ≤ 15_000_000_000_000) (vec_items b.parties) q nothing (omega (arith, l, b.parties.ok.0))
-    (λ k d m. (get_or (vec_items b.parties) k d).payments)
-
 pub read_quarter : (b : Book) (p : ℕ) (x : Quarter) → p < vec_len b.quarters → x ≡ get_or (vec_items b.quarters) p x → x ≡ quarter_at b p
 read_quarter b p x l e = get_or_read (vec_items b.quarters) p x (omega (arith, l, b.quarters.ok.0)) e Blank
 

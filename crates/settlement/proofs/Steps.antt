@@ -97,9 +97,6 @@ pub settle_answered : (k : Known) (q : ℕ) (z : ℤ) → q < k.parties → z �
 settle_answered k q z l e = ap Ok e ∙ ap (λ o. unless_fault o (payable k q)) (sym (party_within k q l))
 
 -- a difference of two amounts of cents, as the machine makes it
-pub less_fits : (r p : ℤ) → nat_abs r ≤ 15_000_000_000_000 → nat_abs p ≤ 15_000_000_000_000 → SFits w64 (to_z w64 (of_z w64 r) -ℤ to_z w64 (of_z w64 p))
-less_fits r p a b = omega (arith, ints)
-
 pub less_is : (r p : ℤ) → nat_abs r ≤ 15_000_000_000_000 → nat_abs p ≤ 15_000_000_000_000 → to_z w64 (of_z w64 (to_z w64 (of_z w64 r) -ℤ to_z w64 (of_z w64 p))) ≡ r -ℤ p
 less_is r p a b = omega (arith, ints)
 

@@ -76,9 +76,7 @@ impl Book {
     ) -> Result<Quarter, BookFault>
         ensures { Whole (priced period (S.PriceSource.means source.now) (record { code = R.Rulebook.CODE; net = R.Rulebook.NET; ruling = R.Rulebook.ruling }) result) self.old self.new }
     {
-        if period >= self.quarters.len() {
-            return Err(BookFault::PeriodOutOfRange { period });
-        }
+        self.has_period(period)?;
         let answer = quote_source(source, rulebook);
         self.turn(period, Call::Price(answer))
     }
@@ -93,12 +91,8 @@ impl Book {
     ) -> Result<Imbalance, BookFault>
         ensures { Whole (metered period party (values_of values.now) result) self.old self.new }
     {
-        if period >= self.quarters.len() {
-            return Err(BookFault::PeriodOutOfRange { period });
-        }
-        if party >= self.parties.len() {
-            return Err(BookFault::PartyOutOfRange { party });
-        }
+        self.has_period(period)?;
+        self.has_party(party)?;
         if let Quarter::Closed(_) = self.quarters[period] {
             return Err(BookFault::QuarterClosed { period });
         }
@@ -112,9 +106,7 @@ impl Book {
     pub fn close(&mut self, period: usize) -> Result<Quarter, BookFault>
         ensures { Whole (closed period result) self.old self.new }
     {
-        if period >= self.quarters.len() {
-            return Err(BookFault::PeriodOutOfRange { period });
-        }
+        self.has_period(period)?;
         self.turn(period, Call::Close)
     }
 
@@ -123,9 +115,7 @@ impl Book {
     pub fn settle(&mut self, party: usize) -> Result<Amount, BookFault>
         ensures { Whole (settled party result) self.old self.new }
     {
-        if party >= self.parties.len() {
-            return Err(BookFault::PartyOutOfRange { party });
-        }
+        self.has_party(party)?;
         let due = whole_cents(self.worth(party));
         let before = self.parties[party].paid;
         self.parties[party].paid = Amount { cents: due };

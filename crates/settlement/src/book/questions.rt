@@ -29,13 +29,9 @@ impl Book {
         ensures answers { result ≡ unless_fault (place_fault (in_book self.now) period party) (imbalance_at self.now period party) }
         ensures as_the_run_says { (h : List Event) → Run h self.now → IfOk result (λ x. x.kwh ≡ volume_after h period party) }
     {
-        if period >= self.quarters.len() {
-            return Err(BookFault::PeriodOutOfRange { period });
-        }
-        let Some(found) = self.parties.get(party) else {
-            return Err(BookFault::PartyOutOfRange { party });
-        };
-        Ok(found.volumes[period])
+        self.has_period(period)?;
+        self.has_party(party)?;
+        Ok(self.parties[party].volumes[period])
     }
 
     /// All that the party was paid so far. Refused with 10.
@@ -45,7 +41,7 @@ impl Book {
     {
         self.parties
             .get(party)
-            .map(|found| found.paid)
+            .map(|balance_party| balance_party.paid)
             .ok_or(BookFault::PartyOutOfRange { party })
     }
 }

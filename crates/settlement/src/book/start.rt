@@ -1,5 +1,4 @@
 // Starting a book.
-ghost use Rattle.std.specs.Prelude.{◌≡◌};
 ghost use Rattle.settlement.specs.Runs.{Started};
 
 use crate::book::Book;

@@ -1,4 +1,5 @@
 use Rattle.std.proofs.Common.{refl}
+use Rattle.std.proofs.lemmas.Result.{err_from_is_err_and}
 use Rattle.settlement.specs.Books.{in_book}
 use Rattle.settlement.specs.Events.{Lawful, Rules, priced}
 use Rattle.settlement.proofs.Kept.{whole}
@@ -13,9 +14,11 @@ rules g = record { code = g.R.Rulebook.CODE; net = g.R.Rulebook.NET; ruling = g.
 lawful : (g : given.Over) → Lawful (rules g)
 lawful g f = record { direction = g.met.R.Rulebook.direction f; counting = g.met.R.Rulebook.counting f; formed = g.met.R.Rulebook.formed f; mean = g.met.R.Rulebook.mean f }
 
-pub returns-then-period-len : goal.returns-then-period-len
-returns-then-period-len g c =
-    whole _ _ _ (record { lawful = lawful g; answered = price_past (in_book c.args.self.now) c.args.period (g.S.PriceSource.means c.args.source.now) (rules g) (rw c.len.ensures at c.if-period-len.true); changes = refl })
+pub returns-in_err-has_period : goal.returns-in_err-has_period
+returns-in_err-has_period g c =
+    let w = err_from_is_err_and c.from_residual.result c.from_residual.ensures.1 in
+    let e = c.in_err-has_period.ensures.err in
+    rw (w.1, w.2, e.0) (whole _ _ _ (record { lawful = lawful g; answered = price_past (in_book c.args.self.now) c.args.period (g.S.PriceSource.means c.args.source.now) (rules g) e.1; changes = refl }))
 
 pub returns : goal.returns
 returns g c =
@@ -23,6 +26,6 @@ returns g c =
     whole (priced c.args.period m (rules g) c.turn.result) c.args.self.now c.turn.new.self
     (record {
       lawful = lawful g;
-      answered = price_answered (in_book c.args.self.now) c.args.period m (rules g) c.turn.result c.quote_source-answer.result (rw c.len.ensures at c.if-period-len.false) c.quote_source-answer.ensures.value c.turn.ensures.answers;
+      answered = price_answered (in_book c.args.self.now) c.args.period m (rules g) c.turn.result c.quote_source-answer.result c.in_ok-has_period.ensures.ok c.quote_source-answer.ensures.value c.turn.ensures.answers;
       changes = c.turn.ensures.changes;
     })

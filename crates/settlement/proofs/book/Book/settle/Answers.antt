@@ -3,6 +3,7 @@ use borrow.Author.Differences.{ints}
 use Rattle.std.proofs.Math.Seq.{map-set_same}
 use Rattle.std.proofs.lemmas.Int.{to_z-of_z}
 use Rattle.std.proofs.lemmas.List.{map-set}
+use Rattle.std.proofs.lemmas.Result.{err_from_is_err_and}
 use Rattle.units.specs.Rounding.{rounded}
 use Rattle.units.specs.declared.euros.Amount.{Amount}
 use Rattle.settlement.specs.Books.{in_book, paid_to, payments_in}
@@ -15,14 +16,17 @@ use Rattle.settlement.proofs.Readings.{read_paid}
 use Rattle.settlement.proofs.Steps.{less_is, paid_in_all, settle_answered, settle_past}
 use Rattle.settlement.proofs.book.Book.settle.Goals as goal
 
-pub returns-then-party-len : goal.returns-then-party-len
-returns-then-party-len c = whole _ _ _ (record { lawful = tt; answered = settle_past (in_book c.args.self.now) c.args.party (rw c.len.ensures at c.if-party-len.true); changes = refl })
+pub returns-in_err-has_party : goal.returns-in_err-has_party
+returns-in_err-has_party c =
+    let w = err_from_is_err_and c.from_residual.result c.from_residual.ensures.1 in
+    let e = c.in_err-has_party.ensures.err in
+    rw (w.1, w.2, e.0) (whole _ _ _ (record { lawful = tt; answered = settle_past (in_book c.args.self.now) c.args.party e.1; changes = refl }))
 
 pub returns : goal.returns
 returns c =
     let b : Book = c.args.self.now in
     let q : ℕ = c.args.party in
-    let l : q < b.parties.len = rw c.len.ensures at c.if-party-len.false in
+    let l : q < b.parties.len = c.in_ok-has_party.ensures.ok in
     let r : ℤ = c.whole_cents-due.result in
     let before : Amount = c.index.result.now.paid in
     let e = read_paid b q c.index.result.now l c.index.ensures in

@@ -8,5 +8,5 @@ use Rattle.settlement.proofs.book.Book.volume.Goals as goal
 
 pub returns : goal.returns
 returns c =
-    let e : Ok c.index.result.now ≡ unless_fault (place_fault (in_book c.args.self.now) c.args.period c.args.party) (imbalance_at c.args.self.now c.args.period c.args.party) = grind (arith, common_steps) in
+    let e : Ok c.index-2.result.now ≡ unless_fault (place_fault (in_book c.args.self.now) c.args.period c.args.party) (imbalance_at c.args.self.now c.args.period c.args.party) = grind (arith, common_steps) in
     record { answers = e; as_the_run_says = volume_said c.args.self.now c.args.period c.args.party _ e }
