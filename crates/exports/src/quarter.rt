@@ -1,5 +1,5 @@
 // Five prices of one sheet.
-ghost use Rattle.std.specs.Prelude.{◌≡◌, ℕ};
+ghost use Rattle.std.specs.Prelude.{◌≡◌};
 ghost use Rattle.exports.specs.Quarters.{Told, every_code, plain_answer, plain_figures, plain_outcome, refused_as, side};
 
 use crate::plain::{PlainQuarter, PlainQuote};

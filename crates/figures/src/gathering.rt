@@ -1,5 +1,5 @@
 // Reading a source once for the figures of its quarter.
-ghost use Rattle.std.specs.Prelude.{◌≡◌, ◌<◌, ◌≤◌};
+ghost use Rattle.std.specs.Prelude.{◌≡◌, ◌<◌};
 ghost use Rattle.figures.specs.Gathering.{CountsShown, Cycled, Figured, Weighs, side_from};
 
 use crate::fault::UnreportedSlot;

@@ -1,5 +1,4 @@
 // The five rulebooks: four Nordic design options and the Finnish edition.
-ghost use Rattle.std.specs.Prelude.{◌≡◌};
 ghost use Rattle.figures.specs.Components.{side_in};
 ghost use Rattle.pricing.specs.declared.ruling.Net.TheVariants.{Local, Zone};
 ghost use Rattle.pricing.specs.Rulings.{combined_all, combined_automatic, finnish, max_min, weighted_average, mean_price, automatic_or_manual, mean_or_manual, extreme_counting, finnish_price};

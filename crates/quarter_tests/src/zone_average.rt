@@ -1,5 +1,4 @@
 // A rulebook from outside the library: the weighted mean, by the zone's net.
-ghost use Rattle.std.specs.Prelude.{◌≡◌};
 ghost use Rattle.pricing.specs.Rulings.{by_zone, mean_price};
 ghost use Rattle.pricing.specs.declared.ruling.Net.TheVariants.{Zone};
 ghost use Rattle.figures.specs.Components.{side_in};

@@ -1,7 +1,7 @@
 // Both calculations of one sheet, side by side.
 use crate::fault::{Fault, Numbered};
 use crate::outcome::Outcome;
-use crate::plain::{DEMAND, PRICE, Plain, Quarter, UNREPORTED, ZONE_NET};
+use crate::plain::{DEMAND, PRICE, Plain, Quarter, UNREPORTED, ZONE_NET, is_within};
 use crate::reader::{Told, read};
 use crate::rules::{Quote, RULES, Rules, quote_of};
 use crate::writer::sheet_of;
@@ -93,10 +93,6 @@ pub(crate) fn compare_sheet(heap: Global, bytes: &[u8]) -> Result<Both, AllocErr
         told_alike: same_told(heap, bytes, &told)?,
         outcome: Outcome::of(&told),
     })
-}
-
-fn is_within(number: i64, bound: i64) -> bool {
-    number.unsigned_abs() <= bound.unsigned_abs()
 }
 
 fn is_bounded(slot: &Plain) -> bool {

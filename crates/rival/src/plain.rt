@@ -12,6 +12,11 @@ pub(crate) const PRICE: i64 = 9_999_900;
 
 pub(crate) const ZONE_NET: i64 = 100_000_000;
 
+/// Whether a number is at most the bound in size.
+pub(crate) fn is_within(number: i64, bound: i64) -> bool {
+    number.unsigned_abs() <= bound.unsigned_abs()
+}
+
 /// One slot: kW, absent where the slot is unreported, and the prices formed, in cents.
 #[derive(Clone, Copy)]
 pub(crate) struct Plain {

@@ -1,6 +1,6 @@
 // A reader of packed sheets.
 use crate::fault::{Fault, Refusal};
-use crate::plain::{DEMAND, IDLE, PRICE, Plain, Quarter, SLOTS, UNREPORTED, ZONE_NET};
+use crate::plain::{DEMAND, IDLE, PRICE, Plain, Quarter, SLOTS, UNREPORTED, ZONE_NET, is_within};
 
 #[derive(Drop)]
 struct Reader<'a> {
@@ -50,7 +50,7 @@ impl Reader<'_> {
             return Err(Refusal::Form.at(start));
         }
         let number = signed(stored);
-        if number > bound || number < bound.wrapping_neg() {
+        if !is_within(number, bound) {
             return Err(Refusal::Bounds.at(start));
         }
         Ok(number)

@@ -1,5 +1,5 @@
 // The groups of a number, and its sign.
-ghost use Rattle.std.specs.Prelude.{◌≡◌, ◌+◌, ◌^◌, ◌<◌, ◌≤◌, length, IfOk};
+ghost use Rattle.std.specs.Prelude.{◌≡◌, ◌^◌, ◌<◌, ◌≤◌, length, IfOk};
 ghost use Rattle.sheet.specs.Groups.{groups, unfolded};
 
 #[derive(Clone, Copy)]

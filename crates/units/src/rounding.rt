@@ -1,7 +1,6 @@
 // Exact prices: the whole ones, their order, and the nearest cent.
-ghost use Rattle.std.specs.Prelude.{◌≡◌, ℕ, ℤ, pos, ◌*ℤ◌, neg_ℤ, ◌≤ℤ◌};
-ghost use Rattle.std.specs.Int.Signed.{le_z};
-ghost use Rattle.units.specs.Exact.{Exact, exact_of, whole, at_most};
+ghost use Rattle.std.specs.Prelude.{◌≡◌, ℤ, pos, ◌*ℤ◌, neg_ℤ, ◌≤ℤ◌};
+ghost use Rattle.units.specs.Exact.{exact_of, whole, at_most};
 ghost use Rattle.units.specs.Rounding.{rounded, Nearest};
 
 use crate::price::Price;

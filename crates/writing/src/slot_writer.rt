@@ -3,6 +3,7 @@ ghost use Rattle.std.specs.Prelude.{◌≡◌, ◌+◌, ◌≤◌, ◌++◌};
 ghost use Rattle.arrayvec.specs.ArrayVec.{array_vec_len};
 ghost use Rattle.sheet.specs.Readers.{by_prices};
 ghost use Rattle.writing.specs.Bytes.{avoided_bytes, price_bytes, reading_bytes, slot_bytes};
+ghost use Rattle.writing.specs.declared.number.TheConstants.{MOST};
 
 use crate::number::{SheetBytes, put_quantity};
 use source::slot::{Reading, Slot};
@@ -20,7 +21,7 @@ fn lead_of(up: Option<Price>, down: Option<Price>) -> u8
 }
 
 fn put_price(out: &mut SheetBytes, price: Option<Price>)
-    requires { array_vec_len out.old + 4 ≤ 2_977 }
+    requires { array_vec_len out.old + 4 ≤ MOST }
     ensures bytes { out.new.items ≡ out.old.items ++ price_bytes price }
     ensures len { array_vec_len out.new ≤ array_vec_len out.old + 4 }
 {
@@ -30,7 +31,7 @@ fn put_price(out: &mut SheetBytes, price: Option<Price>)
 }
 
 pub(crate) fn put_avoided(out: &mut SheetBytes, avoided: Option<Price>)
-    requires { array_vec_len out.old + 5 ≤ 2_977 }
+    requires { array_vec_len out.old + 5 ≤ MOST }
     ensures bytes { out.new.items ≡ out.old.items ++ avoided_bytes avoided }
     ensures len { array_vec_len out.new ≤ array_vec_len out.old + 5 }
 {
@@ -44,7 +45,7 @@ pub(crate) fn put_avoided(out: &mut SheetBytes, avoided: Option<Price>)
 }
 
 fn put_reading(out: &mut SheetBytes, reading: Reading)
-    requires { array_vec_len out.old + 13 ≤ 2_977 }
+    requires { array_vec_len out.old + 13 ≤ MOST }
     ensures bytes { out.new.items ≡ out.old.items ++ reading_bytes reading }
     ensures len { array_vec_len out.new ≤ array_vec_len out.old + 13 }
 {
@@ -55,7 +56,7 @@ fn put_reading(out: &mut SheetBytes, reading: Reading)
 }
 
 pub(crate) fn put_slot(out: &mut SheetBytes, slot: Slot)
-    requires { array_vec_len out.old + 13 ≤ 2_977 }
+    requires { array_vec_len out.old + 13 ≤ MOST }
     ensures bytes { out.new.items ≡ out.old.items ++ slot_bytes slot }
     ensures len { array_vec_len out.new ≤ array_vec_len out.old + 13 }
 {
