@@ -1,6 +1,6 @@
 // The head of a sheet.
 ghost use Rattle.std.specs.Prelude.{◌≡◌, ◌≤◌, length, IfOk, OnOk};
-ghost use Rattle.sheet.specs.Heads.{opens, opening, avoided_at, head_of};
+ghost use Rattle.sheet.specs.Heads.{opens, opening, front, avoided_at, head_of};
 
 use crate::fault::{HEAD, SheetFault, Spot};
 use crate::part::Part;
@@ -42,19 +42,18 @@ fn check_opening(sheet: &[u8]) -> Result<(), SheetFault>
 
 // The avoided value by the flag at `at`, and the place after it.
 #[tactic(auto, unfolding(crate::specs::Heads::avoided_at))]
-fn read_avoided(sheet: &[u8], at: usize) -> Result<(Option<Price>, usize), SheetFault>
-    ensures reads { result ≡ avoided_at sheet.now at }
-    ensures within { IfOk result (λ p. p.1 ≤ length sheet.now) }
+fn read_avoided(sheet: &Part<'_>, at: usize) -> Result<(Option<Price>, usize), SheetFault>
+    requires { sheet.now.start ≡ front }
+    ensures reads { result ≡ avoided_at sheet.now.bytes.now at }
+    ensures within { IfOk result (λ p. p.1 ≤ length sheet.now.bytes.now) }
 {
-    match sheet.get(at) {
-        None => Err(SheetFault::Ends { place: sheet.len() }),
+    match sheet.bytes.get(at) {
+        None => Err(SheetFault::Ends {
+            place: sheet.bytes.len(),
+        }),
         Some(0) => Ok((None, at + 1)),
         Some(1) => {
-            let part = Part {
-                bytes: sheet,
-                start: FRONT,
-            };
-            let (price, end) = part.quantity(at + 1)?;
+            let (price, end) = sheet.quantity(at + 1)?;
             Ok((Some(price), end))
         }
         Some(_) => Err(SheetFault::Flag { place: at }),
@@ -74,7 +73,7 @@ impl Head {
             start: FRONT,
         };
         let (zone_net, at) = part.quantity(OPENING.len())?;
-        let (avoided, end) = read_avoided(sheet, at)?;
+        let (avoided, end) = read_avoided(&part, at)?;
         Ok(Head {
             zone_net,
             avoided,
