@@ -1,5 +1,5 @@
 -- What stands in a book, and what is read of it.
-use Rattle.std.proofs.Common.{◌≡◌, ℕ, ◌<◌, ◌≤◌, List, [], ◌∷◌, length, get_or, set, map, nat_abs, All, vec_items, vec_len, sym, ap, ◌∙◌, subst, arith}
+use Rattle.std.proofs.Common.{◌≡◌, ℕ, ◌<◌, List, [], ◌∷◌, length, get_or, set, map, All, vec_items, vec_len, sym, ap, ◌∙◌, subst, arith}
 use Rattle.std.proofs.lemmas.List.{get_or-map, get_or_read, length-map, length-set}
 use Rattle.metering.specs.declared.imbalance.Imbalance.{Imbalance}
 use Rattle.units.specs.declared.euros.Amount.{Amount}
