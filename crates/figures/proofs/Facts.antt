@@ -1,10 +1,9 @@
 -- What every value of the figures' type has, since some slots give it.
 use mathlib.Core.Logic.{∥∥₁_elim}
-use Rattle.std.proofs.Common.{◌≡◌, ℕ, ◌*◌, ◌≤◌, ℤ, nat_abs, Some, sym, subst, arith}
-use Rattle.std.proofs.lemmas.Bool.Decides.{nat_tests}
+use Rattle.std.proofs.Common.{◌≡◌, ◌*◌, ◌≤◌, nat_abs, sym, subst}
 use Rattle.source.specs.declared.direction.Direction.{Direction}
 use Rattle.source.specs.declared.direction.Direction.TheVariants.{Up, Down}
-use Rattle.figures.specs.Components.{quotient, side_in}
+use Rattle.figures.specs.Components.{side_in}
 use Rattle.figures.specs.declared.quarter_figures.Figures.{Figures}
 use Rattle.figures.specs.declared.side.Side.{Side}
 use Rattle.figures.proofs.Gathered.{side_sound}
@@ -34,6 +33,3 @@ sizes_of s h = record {
 
 pub sizes_in : (f : Figures) (d : Direction) (s : Side) → s ≡ side_in d f → Sizes s
 sizes_in f d s e = sizes_of s (subst Sound (sym e) (sound_in f d))
-
-pub quotient_is : (x : ℤ) (v : ℕ) (n : ℤ) (d : ℕ) → n ≡ x → d ≡ v → 1 ≤ d → Some (record { n = n; d = d }) ≡ quotient x v
-quotient_is x v n d e f h = grind (arith, nat_tests)

@@ -15,9 +15,6 @@ use Rattle.writing.specs.Trips.{Alike, TellsBack, SameBytes}
 use Rattle.writing.proofs.HeadTrips.{bytes_of, head_with, head_back, headed_as}
 use Rattle.writing.proofs.RowTrips.{slots_of, length_slots, get_or_slots, slots_same, row_joined, row_back, Stood, row_stood, row_counted}
 
-closes_at_end : (s : List ℕ) (end : ℕ) → length s ≤ end → closes s end ≡ Ok tt
-closes_at_end s end h = grind (arith, nat_tests)
-
 ended : (s : List ℕ) (end : ℕ) → closes s end ≡ Ok tt → length s ≤ end
 ended s end e = grind (arith, nat_tests)
 

@@ -1,6 +1,5 @@
 use borrow.Author.Differences.{ints}
 use Rattle.std.proofs.Common.{arith}
-use Rattle.std.proofs.lemmas.Bool.Decides.{nat_tests}
 use Rattle.figures.proofs.Facts.{sizes_in}
 use Rattle.figures.proofs.quarter_figures.Figures.weighted_mean.Goals as goal
 
@@ -13,11 +12,6 @@ overflow_add-volume-2 c = let s = sizes_in c.args.self.now c.args.direction c.si
 pub overflow_add-volume-3 : goal.overflow_add-volume-3
 overflow_add-volume-3 c = let s = sizes_in c.args.self.now c.args.direction c.side-side.result c.side-side.ensures in omega arith
 
-pub manual_worth-manual-requires : goal.manual_worth-manual-requires
-manual_worth-manual-requires c =
-    let s = sizes_in c.args.self.now c.args.direction c.side-side.result c.side-side.ensures in
-    record { scheduled = s.scheduled; direct_up = s.above; direct_down = s.below }
-
 pub overflow_add-result : goal.overflow_add-result
 overflow_add-result c = let s = sizes_in c.args.self.now c.args.direction c.side-side.result c.side-side.ensures in omega (arith, ints)
 
@@ -25,6 +19,3 @@ pub invariant_of-result : goal.invariant_of-result
 invariant_of-result c =
     let s = sizes_in c.args.self.now c.args.direction c.side-side.result c.side-side.ensures in
     record { divides = omega arith; few = omega arith; bounded = omega (arith, ints) }
-
-pub returns : goal.returns
-returns c = grind (arith, ints, nat_tests, sizes_in)

@@ -5,9 +5,6 @@ use Rattle.std.proofs.lemmas.Int.{to_z-of_z, to_z_pos}
 use Rattle.figures.proofs.Products.{product_within, sum_kept, totals_same}
 use Rattle.figures.proofs.side.Totals.with.Goals as goal
 
-pub overflow_mul-result : goal.overflow_mul-result
-overflow_mul-result c = grind (arith, ints, to_z-of_z, to_z_pos, product_within)
-
 pub overflow_add-result-2 : goal.overflow_add-result-2
 overflow_add-result-2 c =
     let h = product_within c.in-Some.added.volume 9_999_900 c.in-Some.added.price.cents c.in-Some.added.price.bounded in

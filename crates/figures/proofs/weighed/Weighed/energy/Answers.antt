@@ -4,8 +4,5 @@ use Rattle.std.proofs.lemmas.Int.{to_z-of_z, to_z_pos}
 use Rattle.figures.proofs.Products.{product_within}
 use Rattle.figures.proofs.weighed.Weighed.energy.Goals as goal
 
-pub overflow_mul-result : goal.overflow_mul-result
-overflow_mul-result c = grind (arith, ints, to_z-of_z, to_z_pos, product_within)
-
 pub returns : goal.returns
 returns c = let h = product_within c.args.self.weight 10_000_000 c.args.self.reading.demand.kw c.args.self.reading.demand.bounded in grind (arith, ints, to_z-of_z, to_z_pos)
