@@ -40,12 +40,12 @@ impl Writer {
             _ => 4,
         };
         self.bytes.push(lead)?;
-        if slot.kw.is_some() {
-            self.number_if_any(slot.kw)?;
-            self.number_if_any(slot.up)?;
-            self.number_if_any(slot.down)?;
-        }
-        Ok(())
+        let Some(kw) = slot.kw else {
+            return Ok(());
+        };
+        self.number(kw)?;
+        self.number_if_any(slot.up)?;
+        self.number_if_any(slot.down)
     }
 }
 

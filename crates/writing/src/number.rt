@@ -50,6 +50,7 @@ fn put_groups(out: &mut SheetBytes, stored: u32)
     out.push((stored / 2097152) as u8);
 }
 
+#[tactic(auto, unfolding(crate::specs::Bytes::number_bytes))]
 pub(crate) fn put_quantity<Q: Quantity>(out: &mut SheetBytes, quantity: Q)
     requires { array_vec_len out.old + 4 ≤ MOST }
     ensures bytes { out.new.items ≡ out.old.items ++ number_bytes (Q.number_of quantity) }

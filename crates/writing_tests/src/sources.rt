@@ -3,28 +3,34 @@ use source::netting_fill::NettingFill;
 use source::price_source::PriceSource;
 use source::table::{Row, Table};
 use std::test::Fail;
-use units::bounds::OutOfBounds;
 use units::demand::Demand;
 use units::price::Price;
 use units::quantity::Quantity;
 use units::refusal::Refusal;
 use units::zone_net::ZoneNet;
 
-fn refused<Q: Drop>(made: Result<Q, OutOfBounds>, place: usize) -> bool {
-    made.is_err_and(|fault| fault.number() == 5 && fault.place() == place)
+/// Whether an answer is the refusal with this number and place.
+pub(crate) fn refused<T: Drop, F: Refusal>(
+    answer: Result<T, F>,
+    number: u16,
+    place: usize,
+) -> bool {
+    answer.is_err_and(|fault| fault.number() == number && fault.place() == place)
 }
 
 #[test]
 fn bounds(rt: HostRuntime) -> Result<(), Fail> {
     assert!(rt; Demand::new(10_000_000)?.kw() == 10_000_000);
     assert!(rt; Demand::new(-10_000_000)?.kw() == -10_000_000);
-    assert!(rt; refused(Demand::new(10_000_001), 0) && refused(Demand::new(-10_000_001), 0));
+    assert!(rt; refused(Demand::new(10_000_001), 5, 0) && refused(Demand::new(-10_000_001), 5, 0));
     assert!(rt; Price::new(9_999_900)?.cents() == 9_999_900);
     assert!(rt; Price::new(-9_999_900)?.cents() == -9_999_900);
-    assert!(rt; refused(Price::new(9_999_901), 1) && refused(Price::new(-9_999_901), 1));
+    assert!(rt; refused(Price::new(9_999_901), 5, 1) && refused(Price::new(-9_999_901), 5, 1));
     assert!(rt; ZoneNet::new(100_000_000)?.kw() == 100_000_000);
     assert!(rt; ZoneNet::new(-100_000_000)?.kw() == -100_000_000);
-    assert!(rt; refused(ZoneNet::new(100_000_001), 2) && refused(ZoneNet::new(-100_000_001), 2));
+    assert!(rt;
+        refused(ZoneNet::new(100_000_001), 5, 2) && refused(ZoneNet::new(-100_000_001), 5, 2)
+    );
     Ok(())
 }
 
@@ -69,10 +75,8 @@ fn table(rows: &[Row], avoided: Option<Price>) -> Table<'_> {
 }
 
 fn up_cents_at<S: PriceSource>(source: &S, slot: usize) -> Option<i64> {
-    match source.slot(slot) {
-        Ok(Some(reading)) => reading.up.map(|price| price.cents()),
-        _ => None,
-    }
+    let reading = source.slot(slot).ok().flatten()?;
+    reading.up.map(|price| price.cents())
 }
 
 #[test]
@@ -86,11 +90,7 @@ fn missing_rows(rt: HostRuntime) {
     assert!(rt; matches!(table.slot(2), Ok(Some(_))));
     assert!(rt; matches!(table.slot(3), Ok(None)));
     assert!(rt; matches!(table.slot(227), Ok(None)));
-    assert!(rt;
-        table
-            .slot(228)
-            .is_err_and(|fault| fault.number() == 16 && fault.place() == 228)
-    );
+    assert!(rt; refused(table.slot(228), 16, 228));
 }
 
 // A cycle with demand and no price takes the avoided value, a manual slot does not, and a fill over a fill adds nothing.

@@ -1,4 +1,5 @@
 // Sheets written from sources, and read again.
+use crate::sources::refused;
 use sheet::sheet::Sheet;
 use source::netting_fill::NettingFill;
 use source::price_source::PriceSource;
@@ -6,7 +7,6 @@ use source::table::{Row, Table};
 use std::test::Fail;
 use units::price::Price;
 use units::quantity::Quantity;
-use units::refusal::Refusal;
 use units::zone_net::ZoneNet;
 use writing::sheet_writer::{sheet_len, sheet_vec, write_sheet};
 
@@ -20,8 +20,7 @@ fn short_buffer(rt: HostRuntime) -> Result<(), Fail> {
     };
     assert!(rt; sheet_len(&table) == 235);
     let mut out = [9u8; 234];
-    let written = write_sheet(&table, &mut out);
-    assert!(rt; written.is_err_and(|fault| fault.number() == 15 && fault.place() == 235));
+    assert!(rt; refused(write_sheet(&table, &mut out), 15, 235));
     assert!(rt; out[0] == 9 && out[233] == 9);
     Ok(())
 }
@@ -76,6 +75,6 @@ fn round_trip(rt: HostRuntime) -> Result<(), Fail> {
     let sheet = Sheet::read(bytes.as_slice());
     assert!(rt; sheet.check().is_ok() && sheet.zone_net().kw() == -100_000_000);
     let again = sheet_vec(rt.alloc(), &sheet)?;
-    assert!(rt; again.as_slice() == bytes.as_slice());
+    assert!(rt; again == bytes);
     Ok(())
 }
