@@ -19,6 +19,7 @@ use Rattle.units.specs.Exact.{Exact}
 use Rattle.units.specs.Rounding.{Nearest, rounded}
 use Rattle.units.specs.declared.price.Price.{Price}
 use Rattle.settlement.specs.Events.{Filing, Lawful, Rules}
+use Rattle.settlement.specs.Quarters.{quote_in}
 use Rattle.settlement.specs.Runs.{RightPrice, StandsFor, WithinBounds}
 use Rattle.settlement.specs.declared.quarter.Quarter.{Quarter}
 use Rattle.settlement.specs.declared.quarter.Quarter.TheVariants.{Priced}
@@ -66,10 +67,10 @@ by_meaning m f Avoided p g b = tt
 abbrev pub filed : Meaning → Rules → Quarter → Filing
 filed m r x = record { source = m; rules = r; quarter = x }
 
-pub right : (m : Meaning) (r : Rules) (x : Quarter) (q : Quote) → Lawful r → x ≡ Priced q → Quoted m r.code r.ruling (Ok q) → RightPrice (filed m r x)
+pub right : (m : Meaning) (r : Rules) (x : Quarter) (q : Quote) → Lawful r → x ≡ Priced q → Quoted m r.code r.ruling (Ok q) → RightPrice (filed m r x) x
 right m r x q laws e h = record {
   quote = q;
-  priced = e;
+  filed = ap quote_in e;
   code = code_of r.code (r.ruling h.figures) m.avoided q h.quotes;
   figures = h.figures;
   gives = h.gives;

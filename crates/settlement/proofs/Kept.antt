@@ -1,5 +1,5 @@
 -- Each call keeps that the book holds what the run says.
-use Rattle.std.proofs.Common.{◌≡◌, ℕ, zero, suc, ◌<◌, ◌≤◌, Bool, true, false, not, ◌&&◌, eqb, ◌≢◌, List, [], ◌∷◌, length, get_or, set, replicate, ℤ, ◌+ℤ◌, ◌-ℤ◌, ◌*ℤ◌, Some, None, Ok, Err, IfOk, vec_items, vec_len, Option, Result, sym, refl, ap, ◌∙◌, subst, ⊎_elim, arith, get_or-set_other, get_or-set_same}
+use Rattle.std.proofs.Common.{◌≡◌, ℕ, zero, suc, ◌<◌, ◌≤◌, Bool, true, false, not, ◌&&◌, eqb, ◌≢◌, List, [], ◌∷◌, length, get_or, set, replicate, ℤ, ◌+ℤ◌, ◌-ℤ◌, ◌*ℤ◌, Some, None, Ok, Err, IfOk, vec_items, vec_len, is_some, Option, Result, sym, refl, ap, ◌∙◌, subst, ⊎_elim, arith, get_or-set_other, get_or-set_same}
 use borrow.Author.Differences.{ints}
 use Rattle.std.specs.Option.{option_map}
 use Rattle.std.proofs.lemmas.Bool.{eqb-true, eq-eqb, ne_eqb, cases_Bool, cases_eq, cases_lt, and_parts, and_from}
@@ -16,7 +16,7 @@ use Rattle.settlement.specs.Books.{Filed, Fresh, Metered, Paid, imbalance_at, in
 use Rattle.settlement.specs.Events.{Event, priced, metered, closed, settled, Filing, Lawful, Rules, after_run, last_pricing, volume_after, payments_since, quarter_after, stands_as, was_closed, when}
 use Rattle.settlement.specs.Known.{party_fault, payable, period_fault, place_fault, unless_refused, volume_fault, worth}
 use Rattle.settlement.specs.Payments.{nothing}
-use Rattle.settlement.specs.Quarters.{closed_as, closing, is_closed, standing_cents}
+use Rattle.settlement.specs.Quarters.{closed_as, closing, is_closed, quote_in, standing_cents}
 use Rattle.settlement.specs.Runs.{Answered, Changes, Did, FairlyPaid, PricedAs, RightPrice, Run, begun, after, Sound, Whole, WithinBounds}
 use Rattle.settlement.specs.declared.book.Book.{Book}
 use Rattle.settlement.specs.declared.fault.BookFault.{BookFault}
@@ -30,13 +30,16 @@ use Rattle.settlement.proofs.Readings.{SameCounts, filed_counts, metered_counts,
 use Rattle.settlement.proofs.Sums.{sum_same}
 
 abbrev Bounds : Filing → Type 0
-Bounds f = (q : Quote) → f.quarter ≡ Priced q → WithinBounds q.direction f.source q.price.cents
+Bounds f = (q : Quote) → quote_in f.quarter ≡ Some q → WithinBounds q.direction f.source q.price.cents
+
+abbrev Right : Filing → Type 0
+Right f = RightPrice f f.quarter
 
 -- what a run leaves in the book
 pub record Reached (h : List Event) (b : Book) : Type 0 where
   pub standings : (p : ℕ) → quarter_at b p ≡ quarter_after h p
   pub closings : (p : ℕ) → is_closed (quarter_at b p) ≡ was_closed h p
-  pub prices : (p : ℕ) (f : Filing) → last_pricing h p ≡ Some f → RightPrice f
+  pub prices : (p : ℕ) (f : Filing) → last_pricing h p ≡ Some f → Right f
   pub bounds : (p : ℕ) (f : Filing) → last_pricing h p ≡ Some f → Bounds f
   pub volumes : (p q : ℕ) → p < vec_len b.quarters → q < vec_len b.parties → (imbalance_at b p q).kwh ≡ volume_after h p q
   pub payments : (q : ℕ) → q < vec_len b.parties → (paid_to b q).cents ≡ payments_since h q
@@ -61,8 +64,8 @@ apart p q p' q' d =
 
 -- PRICING
 
-quote_same : (p q : Quote) → Priced p ≡ Priced q → p ≡ q
-quote_same p q e = cc
+quote_same : (p q : Quote) (x : Quarter) → x ≡ Priced p → quote_in x ≡ Some q → p ≡ q
+quote_same p q x e f = let g : quote_in x ≡ Some p = ap quote_in e in cc
 
 -- the last accepted pricing is the new one, or the one before
 last_is : (t : Bool) (o : Option Filing) (f g : Filing) (P : Filing → Type 0) → or_next (when t f) o ≡ Some g → P f → (o ≡ Some g → P g) → P g
@@ -75,7 +78,7 @@ priced_run h b b' p m r x laws a f k =
     let within : p < length qs = omega (arith, a.within, b.quarters.ok.0) in
     let n = filed_counts b b' p x f in
     let unclosed : was_closed h p ≡ false = sym (k.closings p) ∙ a.unclosed in
-    let bounded : Bounds (filed m r x) = λ q e. let same : a.quote ≡ q = quote_same _ _ (sym a.is ∙ e) in subst (λ (w : Quote). WithinBounds w.direction m w.price.cents) same (within_bounds m r a.quote laws a.quoted) in
+    let bounded : Bounds (filed m r x) = λ q e. let same : a.quote ≡ q = quote_same _ _ x a.is e in subst (λ (w : Quote). WithinBounds w.direction m w.price.cents) same (within_bounds m r a.quote laws a.quoted) in
     record {
       standings = λ p'. rw f.quarters (written qs p p' x Blank (λ y. y ≡ quarter_after (priced p m r (Ok x) ∷ h) p') within
           (λ s. rw (← s, eq-eqb p p refl, unclosed) refl)
@@ -83,7 +86,7 @@ priced_run h b b' p m r x laws a f k =
       closings = λ p'. rw f.quarters (written qs p p' x Blank (λ y. is_closed y ≡ was_closed h p') within
           (λ s. rw (← s, a.is, unclosed) refl)
           (λ n. k.closings p'));
-      prices = λ p' g e. last_is (eqb p p') _ (filed m r x) g RightPrice e (right m r x a.quote laws a.is a.quoted) (k.prices p' g);
+      prices = λ p' g e. last_is (eqb p p') _ (filed m r x) g Right e (right m r x a.quote laws a.is a.quoted) (k.prices p' g);
       bounds = λ p' g e. last_is (eqb p p') _ (filed m r x) g Bounds e bounded (k.bounds p' g);
       volumes = λ p' q' l l'. rw f.parties (k.volumes p' q' (omega (arith, l, n.0)) (omega (arith, l', n.1)));
       payments = λ q' l. rw f.parties (k.payments q' (omega (arith, l, n.1)));
@@ -230,6 +233,35 @@ fair n m h (settled q (Ok x)) d =
     let t : ℤ = worth (after_run n m h) q in
     rw (eq-eqb q q refl) (record { divides = omega arith; close = omega (arith, ints, s.1, (nearest_rounded t 1000 (omega arith)).close) })
 
+-- THE STANDING PRICE, BY THE LAST ACCEPTED PRICING
+
+closed_quote : (x : Quarter) → quote_in (closed_as x) ≡ quote_in x
+closed_quote Blank = refl
+closed_quote (Priced q) = refl
+closed_quote (Closed q) = refl
+
+-- closing leaves the quote that was filed
+stands_quote : (f : Filing) (c : Bool) → quote_in (stands_as (Some f) c) ≡ quote_in f.quarter
+stands_quote f false = refl
+stands_quote f true = closed_quote f.quarter
+
+-- the quote that stands is that of the last accepted pricing
+quote_of_last : (h : List Event) (b : Book) (p : ℕ) (f : Filing) → Reached h b → last_pricing h p ≡ Some f → quote_in (quarter_at b p) ≡ quote_in f.quarter
+quote_of_last h b p f k e = ap quote_in (k.standings p) ∙ ap (λ (o : Option Filing). quote_in (stands_as o (was_closed h p))) e ∙ stands_quote f (was_closed h p)
+
+right_price : (h : List Event) (b : Book) (p : ℕ) (f : Filing) → Reached h b → last_pricing h p ≡ Some f → RightPrice f (quarter_at b p)
+right_price h b p f k e =
+    let r = k.prices p f e in
+    record { quote = r.quote; filed = quote_of_last h b p f k e ∙ r.filed; code = r.code; figures = r.figures; gives = r.gives; stands = r.stands }
+
+priced_where : (o : Option Filing) (c : Bool) → ((f : Filing) → o ≡ Some f → Right f) → is_some (quote_in (stands_as o c)) ≡ is_some o
+priced_where None c r = refl
+priced_where (Some f) c r = ap is_some (stands_quote f c ∙ (r f refl).filed)
+
+-- a price stands exactly where a pricing was accepted
+has_price : (h : List Event) (b : Book) (p : ℕ) → Reached h b → is_some (quote_in (quarter_at b p)) ≡ is_some (last_pricing h p)
+has_price h b p k = ap (λ (x : Quarter). is_some (quote_in x)) (k.standings p) ∙ priced_where (last_pricing h p) (was_closed h p) (k.prices p)
+
 -- THE THEOREM
 
 -- by induction on the run
@@ -261,8 +293,9 @@ sound_after h e b b' d k =
     record {
       standings = s.standings;
       closings = s.closings;
-      prices = s.prices;
-      bounds = λ p g q e. s.bounds p g e q;
+      priced = λ p. has_price (e ∷ h) b' p s;
+      prices = λ p g i. right_price (e ∷ h) b' p g s i;
+      bounds = λ p g q i j. s.bounds p g i q (sym (quote_of_last (e ∷ h) b' p g s i) ∙ j);
       volumes = s.volumes;
       payments = s.payments;
       answers = rw (n.0, n.1) a;
@@ -275,7 +308,7 @@ whole e b b' d = record { did = d; only = only (in_book b) e d.answered; run = �
 pub fresh_sound : (b : Book) → Fresh b → Sound [] b
 fresh_sound b f =
     let s = fresh_run b f in
-    record { standings = s.standings; closings = s.closings; prices = s.prices; bounds = λ p g q e. s.bounds p g e q; volumes = s.volumes; payments = s.payments; answers = tt; fair = tt }
+    record { standings = s.standings; closings = s.closings; priced = λ p. has_price [] b p s; prices = λ p g i. right_price [] b p g s i; bounds = λ p g q i j. s.bounds p g i q (sym (quote_of_last [] b p g s i) ∙ j); volumes = s.volumes; payments = s.payments; answers = tt; fair = tt }
 
 -- AN ANSWER THAT THE BOOK GIVES, BY THE RUN
 

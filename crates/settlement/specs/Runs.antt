@@ -1,5 +1,5 @@
 -- Runs of calls over one book, and what is promised of every run.
-use Rattle.std.specs.Prelude.{◌≡◌, ℕ, ◌*◌, ◌<◌, ◌≤◌, ◌&&◌, List, [], ◌∷◌, ℤ, pos, ◌+ℤ◌, ◌-ℤ◌, ◌*ℤ◌, Some, None, Ok, Err, Option, Result, nat_le, unsigned_abs, vec_len}
+use Rattle.std.specs.Prelude.{◌≡◌, ℕ, ◌*◌, ◌<◌, ◌≤◌, ◌&&◌, List, [], ◌∷◌, ℤ, pos, ◌+ℤ◌, ◌-ℤ◌, ◌*ℤ◌, Some, None, Ok, Err, Option, Result, is_some, nat_le, unsigned_abs, vec_len}
 use Rattle.figures.specs.Gathering.{Gives}
 use Rattle.figures.specs.Sides.{side_of}
 use Rattle.figures.specs.declared.quarter_figures.Figures.{Figures}
@@ -20,7 +20,7 @@ use Rattle.settlement.specs.Books.{FiledAs, Fresh, Metered, Paid, imbalance_at, 
 use Rattle.settlement.specs.Events.{Event, priced, metered, closed, settled, Filing, Lawful, Rules, after_run, last_pricing, volume_after, payments_since, quarter_after, was_closed}
 use Rattle.settlement.specs.Known.{Known, party_fault, payable, period_fault, pricing_fault, unless_refused, volume_fault, worth}
 use Rattle.settlement.specs.Payments.{cents_of}
-use Rattle.settlement.specs.Quarters.{closing, filing, is_closed}
+use Rattle.settlement.specs.Quarters.{closing, filing, is_closed, quote_in}
 use Rattle.settlement.specs.declared.book.Book.{Book}
 use Rattle.settlement.specs.declared.fault.BookFault.{BookFault}
 use Rattle.settlement.specs.declared.fault.CountFault.{CountFault}
@@ -28,7 +28,6 @@ use Rattle.settlement.specs.declared.fault.CountFault.TheVariants.{Periods, Part
 use Rattle.settlement.specs.declared.fault.StartFault.{StartFault}
 use Rattle.settlement.specs.declared.fault.StartFault.TheVariants.{Count, Memory}
 use Rattle.settlement.specs.declared.quarter.Quarter.{Quarter}
-use Rattle.settlement.specs.declared.quarter.Quarter.TheVariants.{Priced}
 
 -- ANSWERS
 
@@ -99,10 +98,11 @@ StandsFor (ruled d x) v q = (q.direction ≡ standing d) × HalfCent q.price.cen
 StandsFor avoided (Some v) q = (q.direction ≡ Avoided) × HalfCent q.price.cents (whole v)
 StandsFor avoided None q = ⊥
 
--- an accepted pricing left the quarter priced, with the rulebook's code, by what the rulebook gave for what the source told
-pub record RightPrice (f : Filing) : Type 0 where
+-- the quarter x stands at a quote with the rulebook's code, by what the rulebook gave for what the source told at the
+-- pricing f
+pub record RightPrice (f : Filing) (x : Quarter) : Type 0 where
   pub quote : Quote
-  pub priced : f.quarter ≡ Priced quote
+  pub filed : quote_in x ≡ Some quote
   pub code : quote.code ≡ f.rules.code
   pub figures : Figures
   pub gives : Gives f.source figures
@@ -132,14 +132,16 @@ AnsweredAfter n m (e ∷ h) = Answered (after_run n m h) e
 
 -- what is promised after the calls h
 pub record Sound (h : List Event) (b : Book) : Type 0 where
-  -- a quarter stands as the run says: it has a price exactly where a pricing was accepted, and that of the last one
+  -- a quarter stands as the run says
   pub standings : (p : ℕ) → quarter_at b p ≡ quarter_after h p
-  -- it is closed exactly where a closing was accepted
+  -- it is closed exactly where a closing of it was accepted
   pub closings : (p : ℕ) → is_closed (quarter_at b p) ≡ was_closed h p
-  -- its direction is the rulebook's, and its price at most half a cent from the exact one
-  pub prices : (p : ℕ) (f : Filing) → last_pricing h p ≡ Some f → RightPrice f
-  -- it lies between the weighted mean and the extreme of the formed prices
-  pub bounds : (p : ℕ) (f : Filing) (q : Quote) → last_pricing h p ≡ Some f → f.quarter ≡ Priced q → WithinBounds q.direction f.source q.price.cents
+  -- it has a standing price exactly where a pricing of it was accepted
+  pub priced : (p : ℕ) → is_some (quote_in (quarter_at b p)) ≡ is_some (last_pricing h p)
+  -- its direction is what the rulebook of the last one gave, and its price at most half a cent from the exact one
+  pub prices : (p : ℕ) (f : Filing) → last_pricing h p ≡ Some f → RightPrice f (quarter_at b p)
+  -- the price lies between the weighted mean and the extreme of the formed prices, by what was told at the last one
+  pub bounds : (p : ℕ) (f : Filing) (q : Quote) → last_pricing h p ≡ Some f → quote_in (quarter_at b p) ≡ Some q → WithinBounds q.direction f.source q.price.cents
   pub volumes : (p q : ℕ) → p < vec_len b.quarters → q < vec_len b.parties → (imbalance_at b p q).kwh ≡ volume_after h p q
   pub payments : (q : ℕ) → q < vec_len b.parties → (paid_to b q).cents ≡ payments_since h q
   -- the last call was accepted or refused as the calls before it say, and answered so
