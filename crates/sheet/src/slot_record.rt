@@ -43,6 +43,7 @@ fn reported(demand: Demand, up: Option<Price>, down: Option<Price>) -> Slot
 
 impl Part<'_> {
     // A demand and the price after it, and where they end.
+    #[inline(always)]
     #[tactic(auto, unfolding(crate::specs::Records::pair))]
     fn pair(&self) -> Result<(Demand, Price, usize), NumberFault>
         ensures reads { result ≡ pair self.now.start self.now.bytes.now }
