@@ -1,9 +1,9 @@
 -- Products of a natural and a signed number.
-use Rattle.std.proofs.Common.{◌≡◌, ℕ, ◌*◌, ◌≤◌, ℤ, pos, negsuc, ◌+ℤ◌, ◌*ℤ◌, nat_abs, Option, ap, ◌∙◌, mul-le-mul_left, arith, w64, to_z, of_z}
+use Rattle.std.proofs.Common.{◌≡◌, ℕ, ◌*◌, ◌≤◌, ℤ, pos, negsuc, ◌+ℤ◌, ◌*ℤ◌, nat_abs, ap, ◌∙◌, mul-le-mul_left, arith, w64, to_z, of_z}
 use Rattle.figures.specs.Components.{worth}
 use Rattle.figures.specs.declared.side.Manual.{Manual}
-use Rattle.figures.specs.declared.side.Totals.{Totals}
-use Rattle.figures.specs.declared.span.Span.{Span}
+use Rattle.figures.specs.declared.span.Extremes.{Extremes}
+use Rattle.figures.specs.declared.tally.DirectionTally.{DirectionTally}
 use borrow.Author.Differences.{ints}
 
 pub product_within : (a k : ℕ) (p : ℤ) → nat_abs p ≤ k → nat_abs (pos a *ℤ p) ≤ k * a
@@ -14,12 +14,13 @@ product_within a k (negsuc p) h = omega (arith, ints, mul-le-mul_left a h)
 pub sum_kept : (x m n : ℤ) → m ≡ n → nat_abs x ≤ 22_499_775_000_000_000 → nat_abs n ≤ 22_499_775_000_000_000 → to_z w64 (of_z w64 (to_z w64 (of_z w64 x) +ℤ to_z w64 (of_z w64 m))) ≡ x +ℤ n
 sum_kept x m n e b d = omega (arith, ints)
 
-abbrev totals : ℕ → ℤ → Option Span → Totals
-totals v x s = record { volume = v; value = x; span = s }
+abbrev tally : ℕ → ℤ → Extremes → Extremes → DirectionTally
+tally v x c f = record { volume = v; value = x; counting = c; formed = f }
 
-pub totals_same : (t u : Totals) → t.volume ≡ u.volume → t.value ≡ u.value → t.span ≡ u.span → t ≡ u
-totals_same t u e f g =
-    ap (λ v. totals v t.value t.span) e ∙ ap (λ x. totals u.volume x t.span) f ∙ ap (λ s. totals u.volume u.value s) g
+pub tally_same : (t u : DirectionTally) → t.volume ≡ u.volume → t.value ≡ u.value → t.counting ≡ u.counting → t.formed ≡ u.formed → t ≡ u
+tally_same t u e f g h =
+    ap (λ v. tally v t.value t.counting t.formed) e ∙ ap (λ x. tally u.volume x t.counting t.formed) f
+    ∙ ap (λ c. tally u.volume u.value c t.formed) g ∙ ap (λ d. tally u.volume u.value u.counting d) h
 
 pub worth_within : (m : Manual) → nat_abs (worth m) ≤ 9_999_900 * m.volume
 worth_within m = grind (arith, ints, product_within)

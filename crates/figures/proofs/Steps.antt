@@ -1,21 +1,24 @@
 -- One slot more.
-use Rattle.std.proofs.Common.{◌≡◌, ℕ, zero, suc, ◌+◌, ◌*◌, ◌≤◌, true, ℤ, nat_abs, Some, Option, sym, subst, add-one, arith}
+use Rattle.std.proofs.Common.{◌≡◌, ℕ, zero, suc, ◌+◌, ◌*◌, ◌≤◌, true, ℤ, nat_abs, Some, None, Option, refl, sym, ap, ◌∙◌, subst, add-one, arith}
 use borrow.Author.Differences.{ints}
 use Rattle.source.specs.Meanings.{Meaning}
 use Rattle.source.specs.Products.{weight}
 use Rattle.source.specs.declared.direction.Direction.{Direction}
 use Rattle.source.specs.declared.direction.Direction.TheVariants.{Up, Down}
+use Rattle.units.proofs.Made.{price_made}
 use Rattle.units.specs.declared.price.Price.{Price}
 use Rattle.units.specs.declared.zone_net.ZoneNet.{ZoneNet}
-use Rattle.figures.specs.Counting.{reported}
-use Rattle.figures.specs.Sides.{Given, ReportedTo, Slots, net_to, formed_to, counting_to, manual_at}
+use Rattle.figures.specs.Counting.{formed_of, reported}
+use Rattle.figures.specs.Sides.{Given, ReportedTo, Slots, net_to, formed_to, counting_to, joined, manual_at}
 use Rattle.figures.specs.Gathering.{side_from}
-use Rattle.figures.specs.Spans.{low_of, high_of}
-use Rattle.figures.specs.Tallies.{Room, Tallied, blank, counting, manual, noting}
+use Rattle.figures.specs.Spans.{extremes_of, low_of, high_of, noted, reached, reached_if, span_of, widened}
+use Rattle.figures.specs.Tallies.{Room, Tallied, blank, counting, counting_in, manual, noting, noting_in, tally_of}
+use Rattle.figures.specs.declared.side.Activation.{Activation}
 use Rattle.figures.specs.declared.gathering.ManualSlots.{ManualSlots}
 use Rattle.figures.specs.declared.side.Side.{Side}
 use Rattle.figures.specs.declared.side.Totals.{Totals}
 use Rattle.figures.specs.declared.span.Span.{Span}
+use Rattle.figures.specs.declared.tally.DirectionTally.{DirectionTally}
 use Rattle.figures.specs.declared.tally.Tally.{Tally}
 use Rattle.figures.specs.declared.weighed.Weighed.{Weighed}
 use Rattle.figures.proofs.Gathered.{cycles_sound, weight_bounds}
@@ -26,6 +29,26 @@ use Rattle.figures.proofs.Sound.{CyclesAre}
 abbrev pub Is : Slots → ℕ → Weighed → Type 0
 Is m k w = (m k ≡ Some w.reading) × (w.weight ≡ weight k)
 
+-- ---- one price more, and one activation more
+pub extremes_reached : (p : Price) (o : Option Span) → reached p (extremes_of o) ≡ extremes_of (Some (widened p o))
+extremes_reached p None = grind (arith, ints, p.bounded)
+extremes_reached p (Some s) = grind (arith, ints)
+
+pub extremes_noted : (p : Option Price) (o : Option Span) → reached_if p (extremes_of o) ≡ extremes_of (noted p o)
+extremes_noted None o = refl
+extremes_noted (Some p) o = extremes_reached p o
+
+span_again : (s : Option Span) → span_of (extremes_of s) ≡ s
+span_again None = refl
+span_again (Some s) = grind (arith, price_made s.lowest.cents s.lowest refl, price_made s.highest.cents s.highest refl)
+
+tally_noted : (p : Option Price) (c : Totals) (f : Option Span) → noting_in p (tally_of c f) ≡ tally_of c (noted p f)
+tally_noted p c f = grind (arith, extremes_noted p f)
+
+tally_joined : (a : Option Activation) (c : Totals) (f : Option Span) → counting_in a (tally_of c f) ≡ tally_of (joined a c) f
+tally_joined None c f = refl
+tally_joined (Some a) c f = grind (arith, extremes_reached a.price c.span)
+
 pub blank_tallied : (m : Slots) → Tallied m 0 0 blank
 unfolding net_to formed_to counting_to
 blank_tallied m = grind arith
@@ -33,11 +56,15 @@ blank_tallied m = grind arith
 module _ (m : Slots) (k : ℕ) (w : Weighed) (is : Is m k w) where
   pub noted_tallied : (c : ℕ) (t : Tally) → Tallied m k c t → Tallied m (k + 1) c (noting w t)
   unfolding net_to formed_to
-  noted_tallied c t h = rw add-one (grind arith)
+  noted_tallied c t h = rw add-one (record {
+    nets = grind arith;
+    ups = ap (noting_in w.reading.up) h.ups ∙ tally_noted w.reading.up (counting_to Up m c) (formed_to Up m k) ∙ ap (λ s. tally_of (counting_to Up m c) (noted (formed_of Up s) (formed_to Up m k))) (sym is.0);
+    downs = ap (noting_in w.reading.down) h.downs ∙ tally_noted w.reading.down (counting_to Down m c) (formed_to Down m k) ∙ ap (λ s. tally_of (counting_to Down m c) (noted (formed_of Down s) (formed_to Down m k))) (sym is.0);
+  })
 
   pub counted_tallied : (n : ℕ) (t : Tally) → Tallied m n k t → Tallied m n (k + 1) (counting w t)
   unfolding counting_to
-  counted_tallied n t h = rw add-one (grind arith)
+  counted_tallied n t h = rw add-one (grind (arith, tally_joined))
 
   pub manual_is : (d : Direction) → manual d w ≡ manual_at d m k
   manual_is d = grind arith
@@ -59,8 +86,8 @@ low_within s = grind (arith, ints)
 pub value_within : (most : ℕ) (f : Option Span) (v : ℕ) (x : ℤ) (o : Option Span) → CyclesAre most f v x o → nat_abs x ≤ 9_999_900 * v
 value_within most f v x o s = grind (arith, ints, low_within o, product_within v 9_999_900 (low_of o), product_within v 9_999_900 (high_of o))
 
-pub cycles_room : (d : Direction) (m : Slots) (n : ℕ) (t : Totals) → n ≤ 225 → t ≡ counting_to d m n → Room t
-cycles_room d m n t h e =
+pub cycles_room : (d : Direction) (m : Slots) (n : ℕ) (t : DirectionTally) (f : Option Span) → n ≤ 225 → t ≡ tally_of (counting_to d m n) f → Room t
+cycles_room d m n t f h e =
     let s = cycles_sound d m n h in
     grind (arith, value_within _ _ (counting_to d m n).volume (counting_to d m n).value (counting_to d m n).span s)
 
@@ -91,4 +118,4 @@ module _ (M : Meaning) (t a b e : Tally) (s : ManualSlots) (cycles : Tallied M.s
 
   pub quarter_given : (net : ℤ) (zone : ZoneNet) (o : Option Price) (above below : Side) → net ≡ e.net → zone ≡ M.zone → o ≡ M.avoided
       → above ≡ side_from Up e.up s → below ≡ side_from Down e.down s → Given M net zone o above below
-  quarter_given net zone o above below n z v x y = grind (arith, all_tallied, all_reported, manual_is)
+  quarter_given net zone o above below n z v x y = grind (arith, all_tallied, all_reported, manual_is, span_again)

@@ -6,7 +6,8 @@ use Rattle.source.specs.declared.direction.Direction.{Direction}
 use Rattle.figures.specs.Components.{side_in, volume}
 use Rattle.figures.specs.Counting.{Counts}
 use Rattle.figures.specs.Sides.{Given, ReportedTo, Slots}
-use Rattle.figures.specs.Tallies.{Tallied, manual}
+use Rattle.figures.specs.Spans.{span_of}
+use Rattle.figures.specs.Tallies.{Tallied, cycles_of, manual}
 use Rattle.figures.specs.declared.fault.UnreportedSlot.{UnreportedSlot}
 use Rattle.figures.specs.declared.quarter_figures.Figures.{Figures}
 use Rattle.figures.specs.declared.gathering.ManualSlots.{ManualSlots}
@@ -51,10 +52,10 @@ Cycled m (Err e) = FirstUnreported m e.slot
 
 -- a direction's figures, of its cycles, its formed prices and the manual slots
 abbrev pub side_from : Direction → DirectionTally → ManualSlots → Side
-side_from d c s = record {
-  cycles = c.cycles;
+side_from d t s = record {
+  cycles = cycles_of t;
   scheduled = manual d s.scheduled;
   direct_up = manual d s.direct_up;
   direct_down = manual d s.direct_down;
-  formed = c.formed;
+  formed = span_of t.formed;
 }

@@ -1,36 +1,46 @@
 -- The sums over the slots that were read so far, one slot at a time: what the private functions of the gathering promise.
-use Rattle.std.specs.Prelude.{◌≡◌, ℕ, ◌*◌, ◌≤◌, pos, ◌+ℤ◌, ◌*ℤ◌, None, Option, unsigned_abs}
+use Rattle.std.specs.Prelude.{◌≡◌, ℕ, ◌+◌, ◌*◌, ◌≤◌, pos, ◌+ℤ◌, ◌*ℤ◌, Some, None, Option, unsigned_abs}
 use Rattle.source.specs.Slots.{formed}
 use Rattle.source.specs.declared.direction.Direction.{Direction}
 use Rattle.source.specs.declared.direction.Direction.TheVariants.{Up, Down}
 use Rattle.units.specs.declared.price.Price.{Price}
 use Rattle.figures.specs.Counting.{counted}
-use Rattle.figures.specs.Sides.{Slots, net_to, formed_to, counting_to, joined, none, volume_of}
-use Rattle.figures.specs.Spans.{noted}
+use Rattle.figures.specs.Sides.{Slots, net_to, formed_to, counting_to, none, volume_of}
+use Rattle.figures.specs.Spans.{extremes_of, reached, reached_if, span_of}
 use Rattle.figures.specs.declared.side.Activation.{Activation}
 use Rattle.figures.specs.declared.side.Manual.{Manual}
 use Rattle.figures.specs.declared.side.Totals.{Totals}
+use Rattle.figures.specs.declared.span.Span.{Span}
 use Rattle.figures.specs.declared.tally.DirectionTally.{DirectionTally}
 use Rattle.figures.specs.declared.tally.Tally.{Tally}
 use Rattle.figures.specs.declared.weighed.Weighed.{Weighed}
 
--- the totals have room for one cycle more
-abbrev pub Room : Totals → Type 0
+-- the tally of a direction that has these totals of the cycles and these formed prices
+abbrev pub tally_of : Totals → Option Span → DirectionTally
+tally_of c f = record { volume = c.volume; value = c.value; counting = extremes_of c.span; formed = extremes_of f }
+
+-- the totals of the cycles again
+abbrev pub cycles_of : DirectionTally → Totals
+cycles_of t = record { volume = t.volume; value = t.value; span = span_of t.counting }
+
+-- there is room for one cycle more
+abbrev pub Room : DirectionTally → Type 0
 Room t = (t.volume ≤ 2_250_000_000) × (unsigned_abs t.value ≤ 9_999_900 * t.volume)
 
 abbrev pub manual : Direction → Weighed → Manual
 manual d w = record { volume = volume_of (counted d w.weight w.reading); price = formed d w.reading }
 
 abbrev pub blank : Tally
-blank = record { net = pos 0; up = record { cycles = none; formed = None }; down = record { cycles = none; formed = None } }
+blank = record { net = pos 0; up = tally_of none None; down = tally_of none None }
 
 -- one price more, where it is formed
 abbrev pub noting_in : Option Price → DirectionTally → DirectionTally
-noting_in p t = record { cycles = t.cycles; formed = noted p t.formed }
+noting_in p t = record { volume = t.volume; value = t.value; counting = t.counting; formed = reached_if p t.formed }
 
 -- one cycle more, where it counts
 abbrev pub counting_in : Option Activation → DirectionTally → DirectionTally
-counting_in a t = record { cycles = joined a t.cycles; formed = t.formed }
+counting_in None t = t
+counting_in (Some a) t = record { volume = t.volume + a.volume; value = t.value +ℤ (pos a.volume *ℤ a.price.cents); counting = reached a.price t.counting; formed = t.formed }
 
 abbrev pub noting : Weighed → Tally → Tally
 noting w t = record {
@@ -49,7 +59,5 @@ counting w t = record {
 -- the first n slots are noted, and the first c of them counted
 pub record Tallied (m : Slots) (n c : ℕ) (t : Tally) : Type 0 where
   pub nets : t.net ≡ net_to m n
-  pub ups : t.up.cycles ≡ counting_to Up m c
-  pub formed_up : t.up.formed ≡ formed_to Up m n
-  pub downs : t.down.cycles ≡ counting_to Down m c
-  pub formed_down : t.down.formed ≡ formed_to Down m n
+  pub ups : t.up ≡ tally_of (counting_to Up m c) (formed_to Up m n)
+  pub downs : t.down ≡ tally_of (counting_to Down m c) (formed_to Down m n)

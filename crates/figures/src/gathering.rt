@@ -57,11 +57,11 @@ impl ManualSlots {
         ensures { result ≡ side_from direction tally self }
     {
         Side {
-            cycles: tally.cycles,
+            cycles: tally.cycles(),
             scheduled: self.scheduled.manual(direction),
             direct_up: self.direct_up.manual(direction),
             direct_down: self.direct_down.manual(direction),
-            formed: tally.formed,
+            formed: tally.formed.span(),
         }
     }
 }

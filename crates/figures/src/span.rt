@@ -1,8 +1,9 @@
 // The lowest and the highest of some prices.
 ghost use Rattle.std.specs.Prelude.{◌≡◌};
-ghost use Rattle.figures.specs.Spans.{widened, noted};
+ghost use Rattle.figures.specs.Spans.{reached, reached_if, span_of};
 
 use units::price::Price;
+use units::quantity::Quantity;
 
 #[derive(Clone, Copy)]
 pub struct Span {
@@ -10,27 +11,47 @@ pub struct Span {
     pub highest: Price,
 }
 
-impl Span {
+// The lowest and the highest of the prices so far, in cents. Where there is none they lie beyond all prices, the lowest
+// above and the highest below, so that one price more is no case of its own.
+#[derive(Clone, Copy)]
+pub(crate) struct Extremes {
+    pub(crate) lowest: i64,
+    pub(crate) highest: i64,
+}
+
+impl Extremes {
+    pub(crate) const NONE: Extremes = Extremes {
+        lowest: i64::MAX,
+        highest: i64::MIN,
+    };
+
     // The prices so far and one more.
-    pub(crate) fn with(span: Option<Span>, price: Price) -> Span
-        ensures { result ≡ widened price span }
+    pub(crate) fn with(self, price: Price) -> Extremes
+        ensures { result ≡ reached price self }
     {
-        match span {
-            None => Span {
-                lowest: price,
-                highest: price,
-            },
-            Some(wide) => Span {
-                lowest: wide.lowest.min(price),
-                highest: price.max(wide.highest),
-            },
+        let cents = price.cents();
+        Extremes {
+            lowest: self.lowest.min(cents),
+            highest: self.highest.max(cents),
         }
     }
 
     // The prices so far and one more, where one is formed.
-    pub(crate) fn noting(span: Option<Span>, price: Option<Price>) -> Option<Span>
-        ensures { result ≡ noted price span }
+    pub(crate) fn noting(self, price: Option<Price>) -> Extremes
+        ensures { result ≡ reached_if price self }
     {
-        price.map_or(span, |price| Some(Span::with(span, price)))
+        match price {
+            None => self,
+            Some(price) => self.with(price),
+        }
+    }
+
+    // The lowest and the highest as prices, where there was one.
+    pub(crate) fn span(self) -> Option<Span>
+        ensures { result ≡ span_of self }
+    {
+        let lowest = Price::new(self.lowest).ok()?;
+        let highest = Price::new(self.highest).ok()?;
+        Some(Span { lowest, highest })
     }
 }

@@ -1,20 +1,22 @@
 // The sums over the slots that were read so far.
 ghost use Rattle.std.specs.Prelude.{◌≡◌, ◌*◌, ◌≤◌, pos, ◌*ℤ◌, unsigned_abs};
 ghost use Rattle.figures.specs.Counting.{counted, demand_in};
-ghost use Rattle.figures.specs.Sides.{joined, volume_of};
-ghost use Rattle.figures.specs.Tallies.{Room, blank, counting, counting_in, manual, noting, noting_in};
+ghost use Rattle.figures.specs.Sides.{volume_of};
+ghost use Rattle.figures.specs.Tallies.{Room, blank, counting, counting_in, cycles_of, manual, noting, noting_in};
 
 use crate::side::{Activation, Manual, Totals};
-use crate::span::Span;
+use crate::span::Extremes;
 use crate::weighed::Weighed;
 use source::direction::Direction;
 use units::price::Price;
 
-// Of one direction the totals of the cycles counted, and the formed prices of the slots noted.
+// Of one direction V, S and the prices of the cycles counted, and the formed prices of the slots noted.
 #[derive(Clone, Copy)]
 pub(crate) struct DirectionTally {
-    pub(crate) cycles: Totals,
-    pub(crate) formed: Option<Span>,
+    pub(crate) volume: u64,
+    pub(crate) value: i64,
+    pub(crate) counting: Extremes,
+    pub(crate) formed: Extremes,
 }
 
 // The local net of the slots noted, and what was counted and noted in each direction.
@@ -67,42 +69,50 @@ impl Weighed {
     }
 }
 
-impl Totals {
-    fn with(self, activation: Option<Activation>) -> Totals
-        requires room { Room self }
-        requires small { volume_of activation ≤ 2_250_000_000 }
-        ensures { result ≡ joined activation self }
+impl DirectionTally {
+    const BLANK: DirectionTally = DirectionTally {
+        volume: 0,
+        value: 0,
+        counting: Extremes::NONE,
+        formed: Extremes::NONE,
+    };
+
+    // The totals of the cycles counted.
+    pub(crate) fn cycles(self) -> Totals
+        ensures { result ≡ cycles_of self }
     {
-        let Some(added) = activation else {
-            return self;
-        };
         Totals {
-            volume: self.volume + added.volume,
-            value: self.value + added.volume as i64 * added.price.cents(),
-            span: Some(Span::with(self.span, added.price)),
+            volume: self.volume,
+            value: self.value,
+            span: self.counting.span(),
         }
     }
-}
 
-impl DirectionTally {
     // One price more, where it is formed.
     fn noting(self, price: Option<Price>) -> DirectionTally
         ensures { result ≡ noting_in price self }
     {
         DirectionTally {
-            cycles: self.cycles,
-            formed: Span::noting(self.formed, price),
+            volume: self.volume,
+            value: self.value,
+            counting: self.counting,
+            formed: self.formed.noting(price),
         }
     }
 
     // One cycle more, where it counts.
     fn counting(self, activation: Option<Activation>) -> DirectionTally
-        requires room { Room self.cycles }
+        requires room { Room self }
         requires small { volume_of activation ≤ 2_250_000_000 }
         ensures { result ≡ counting_in activation self }
     {
+        let Some(added) = activation else {
+            return self;
+        };
         DirectionTally {
-            cycles: self.cycles.with(activation),
+            volume: self.volume + added.volume,
+            value: self.value + added.volume as i64 * added.price.cents(),
+            counting: self.counting.with(added.price),
             formed: self.formed,
         }
     }
@@ -112,18 +122,10 @@ impl Tally {
     pub(crate) fn blank() -> Tally
         ensures { result ≡ blank }
     {
-        let blank = DirectionTally {
-            cycles: Totals {
-                volume: 0,
-                value: 0,
-                span: None,
-            },
-            formed: None,
-        };
         Tally {
             net: 0,
-            up: blank,
-            down: blank,
+            up: DirectionTally::BLANK,
+            down: DirectionTally::BLANK,
         }
     }
 
@@ -141,8 +143,8 @@ impl Tally {
 
     // The counting demand of one cycle more.
     pub(crate) fn counting(self, cycle: Weighed) -> Tally
-        requires up { Room self.up.cycles }
-        requires down { Room self.down.cycles }
+        requires up { Room self.up }
+        requires down { Room self.down }
         ensures { result ≡ counting cycle self }
     {
         Tally {

@@ -1,5 +1,6 @@
-use Rattle.std.proofs.Common.{◌+◌, sym, ap, ◌∙◌, subst, arith, below_none, below_more}
+use Rattle.std.proofs.Common.{◌+◌, sym, subst, arith, below_none, below_more}
 use Rattle.source.specs.declared.direction.Direction.TheVariants.{Up, Down}
+use Rattle.figures.specs.Sides.{formed_to}
 use Rattle.figures.specs.Tallies.{Tallied}
 use Rattle.figures.proofs.Steps.{blank_tallied, cycles_room, counted_tallied, is_reported, net_room, noted_tallied}
 use Rattle.figures.proofs.gathering.cycles.Goals as goal
@@ -16,10 +17,8 @@ pub counting-tally-requires : goal.counting-tally-requires
 counting-tally-requires g c =
     let m = (g.S.PriceSource.means c.args.source.now).slots in
     let k = c.loop-slot.slot in
-    record {
-      up = cycles_room Up m k c.noting.result.up.cycles (omega arith) (ap (λ t. t.up.cycles) c.noting.ensures ∙ c.loop-slot.invariant.0.ups);
-      down = cycles_room Down m k c.noting.result.down.cycles (omega arith) (ap (λ t. t.down.cycles) c.noting.ensures ∙ c.loop-slot.invariant.0.downs);
-    }
+    let n = subst (Tallied m (k + 1) k) (sym c.noting.ensures) (noted_tallied m k c.in_ok-cycle.cycle c.in_ok-cycle.ensures k c.loop-slot.tally c.loop-slot.invariant.0) in
+    record { up = cycles_room Up m k _ (formed_to Up m (k + 1)) (omega arith) n.ups; down = cycles_room Down m k _ (formed_to Down m (k + 1)) (omega arith) n.downs }
 
 pub loop-slot-preserved : goal.loop-slot-preserved
 loop-slot-preserved g c =
