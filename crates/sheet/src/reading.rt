@@ -1,5 +1,5 @@
 // Reading the records of a sheet, one by one.
-ghost use Rattle.std.specs.Prelude.{◌≡◌, length};
+ghost use Rattle.std.specs.Prelude.{◌≡◌, None, length, replicate};
 ghost use Rattle.sheet.specs.Readers.{standing, begins, answer, after, shown_of};
 ghost use Rattle.sheet.specs.Sheets.{slots_from, closed};
 
@@ -51,13 +51,13 @@ impl<'a> Reader<'a> {
         Ok(Some(record))
     }
 
-    // Tells the slots from slot 0 on, up to the first fault; from there on they are unreported.
+    // Tells the slots from slot 0 on, up to the first fault; from there on they stay unreported.
     pub(crate) fn tell(&mut self, slots: &mut [Slot]) -> Result<(), SheetFault>
-        requires { (self.old.slot ≡ 0) × (length slots.old ≡ 228) }
+        requires first { self.old.slot ≡ 0 }
+        requires unreported { slots.old ≡ replicate 228 None }
         ensures tells { slots.new ≡ (slots_from self.old.sheet.now self.old.at).0 }
         ensures refuses { result ≡ closed self.old.sheet.now (slots_from self.old.sheet.now self.old.at).1 }
     {
-        slots.fill(None);
         while let Some(_) = self.next()? {
             slots[self.slot - 1] = self.told;
         }
