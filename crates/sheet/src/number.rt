@@ -1,11 +1,21 @@
 // The groups of a number, and its sign.
 ghost use Rattle.std.specs.Prelude.{◌≡◌, ◌^◌, ◌<◌, ◌≤◌, length, IfOk};
-ghost use Rattle.sheet.specs.Groups.{groups, unfolded};
+ghost use Rattle.sheet.specs.Groups.{groups, last, unfolded};
 
 #[derive(Clone, Copy)]
 pub(crate) enum GroupsFault {
     Ends,
     Form,
+}
+
+// Groups that end at the byte `byte`: 0 would end a number that has a shorter form.
+fn ended(byte: u8, joined: u32, size: usize) -> Result<(u32, usize), GroupsFault>
+    ensures { result ≡ last byte joined size }
+{
+    if byte == 0 {
+        return Err(GroupsFault::Form);
+    }
+    Ok((joined, size))
 }
 
 // The groups at the front of the bytes, joined, and how many bytes they take.
@@ -14,28 +24,22 @@ pub(crate) fn read_groups(s: &[u8]) -> Result<(u32, usize), GroupsFault>
     ensures fits { IfOk result (λ p. (p.0 < 2 ^ 28) × (p.1 ≤ length s.now)) }
 {
     match s {
-        [] => Err(GroupsFault::Ends),
         [a, ..] if *a < 128 => Ok((u32::from(*a), 1)),
-        [_] => Err(GroupsFault::Ends),
-        [_, 0, ..] => Err(GroupsFault::Form),
-        [a, b, ..] if *b < 128 => Ok((u32::from(*a) - 128 + 128 * u32::from(*b), 2)),
-        [_, _] => Err(GroupsFault::Ends),
-        [_, _, 0, ..] => Err(GroupsFault::Form),
+        [a, b, ..] if *b < 128 => ended(*b, u32::from(*a) - 128 + 128 * u32::from(*b), 2),
         [a, b, c, ..] if *c < 128 => {
-            Ok((
-                u32::from(*a) - 128 + 128 * (u32::from(*b) - 128) + 16384 * u32::from(*c),
-                3,
-            ))
-        }
-        [_, _, _] => Err(GroupsFault::Ends),
-        [_, _, _, 0 | 128.., ..] => Err(GroupsFault::Form),
-        [a, b, c, d, ..] => {
             let low = u32::from(*a) - 128 + 128 * (u32::from(*b) - 128);
-            Ok((
+            ended(*c, low + 16384 * u32::from(*c), 3)
+        }
+        [a, b, c, d, ..] if *d < 128 => {
+            let low = u32::from(*a) - 128 + 128 * (u32::from(*b) - 128);
+            ended(
+                *d,
                 low + 16384 * (u32::from(*c) - 128) + 2097152 * u32::from(*d),
                 4,
-            ))
+            )
         }
+        [_, _, _, _, ..] => Err(GroupsFault::Form),
+        _ => Err(GroupsFault::Ends),
     }
 }
 
