@@ -54,7 +54,7 @@ unfolding net_to formed_to counting_to
 blank_tallied m = grind arith
 
 module _ (m : Slots) (k : ℕ) (w : Weighed) (is : Is m k w) where
-  pub noted_tallied : (c : ℕ) (t : Tally) → Tallied m k c t → Tallied m (k + 1) c (noting w t)
+  noted_tallied : (c : ℕ) (t : Tally) → Tallied m k c t → Tallied m (k + 1) c (noting w t)
   unfolding net_to formed_to
   noted_tallied c t h = rw add-one (record {
     nets = grind arith;
@@ -62,9 +62,12 @@ module _ (m : Slots) (k : ℕ) (w : Weighed) (is : Is m k w) where
     downs = ap (noting_in w.reading.down) h.downs ∙ tally_noted w.reading.down (counting_to Down m c) (formed_to Down m k) ∙ ap (λ s. tally_of (counting_to Down m c) (noted (formed_of Down s) (formed_to Down m k))) (sym is.0);
   })
 
-  pub counted_tallied : (n : ℕ) (t : Tally) → Tallied m n k t → Tallied m n (k + 1) (counting w t)
+  counted_tallied : (n : ℕ) (t : Tally) → Tallied m n k t → Tallied m n (k + 1) (counting w t)
   unfolding counting_to
   counted_tallied n t h = rw add-one (grind (arith, tally_joined))
+
+  pub cycle_tallied : (t : Tally) → Tallied m k k t → Tallied m (k + 1) (k + 1) (counting w (noting w t))
+  cycle_tallied t h = counted_tallied (k + 1) (noting w t) (noted_tallied k t h)
 
   pub manual_is : (d : Direction) → manual d w ≡ manual_at d m k
   manual_is d = grind arith

@@ -42,6 +42,10 @@ abbrev pub counting_in : Option Activation → DirectionTally → DirectionTally
 counting_in None t = t
 counting_in (Some a) t = record { volume = t.volume + a.volume; value = t.value +ℤ (pos a.volume *ℤ a.price.cents); counting = reached a.price t.counting; formed = t.formed }
 
+-- the price that a cycle has in a direction, and what it counts there
+abbrev pub with_in : Direction → Weighed → DirectionTally → DirectionTally
+with_in d w t = counting_in (counted d w.weight w.reading) (noting_in (formed d w.reading) t)
+
 abbrev pub noting : Weighed → Tally → Tally
 noting w t = record {
   net = t.net +ℤ (pos w.weight *ℤ w.reading.demand.kw);

@@ -39,7 +39,7 @@ fn cycles<S: PriceSource>(source: &S) -> Result<Tally, UnreportedSlot>
     let mut tally = Tally::blank();
     for slot in 0..CYCLES {
         let cycle = weighed(source, slot)?;
-        tally = tally.noting(cycle).counting(cycle);
+        tally = tally.with(cycle);
     }
     Ok(tally)
 }

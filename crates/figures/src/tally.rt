@@ -2,7 +2,7 @@
 ghost use Rattle.std.specs.Prelude.{◌≡◌, ◌*◌, ◌≤◌, pos, ◌*ℤ◌, unsigned_abs};
 ghost use Rattle.figures.specs.Counting.{counted, demand_in};
 ghost use Rattle.figures.specs.Sides.{volume_of};
-ghost use Rattle.figures.specs.Tallies.{Room, blank, counting, counting_in, cycles_of, manual, noting, noting_in};
+ghost use Rattle.figures.specs.Tallies.{Room, blank, counting, counting_in, cycles_of, manual, noting, noting_in, with_in};
 
 use crate::side::{Activation, Manual, Totals};
 use crate::span::Extremes;
@@ -116,6 +116,18 @@ impl DirectionTally {
             formed: self.formed,
         }
     }
+
+    // One cycle more: the price formed in the direction, and what counts in it. Without that price nothing does.
+    fn with(self, direction: Direction, cycle: Weighed) -> DirectionTally
+        requires { Room self }
+        ensures { result ≡ with_in direction cycle self }
+    {
+        let price = cycle.reading.formed(direction);
+        if price.is_none() {
+            return self;
+        }
+        self.noting(price).counting(cycle.activation(direction))
+    }
 }
 
 impl Tally {
@@ -141,16 +153,17 @@ impl Tally {
         }
     }
 
-    // The counting demand of one cycle more.
-    pub(crate) fn counting(self, cycle: Weighed) -> Tally
+    // One cycle more.
+    pub(crate) fn with(self, cycle: Weighed) -> Tally
+        requires net { unsigned_abs self.net ≤ 513_000_000_000 }
         requires up { Room self.up }
         requires down { Room self.down }
-        ensures { result ≡ counting cycle self }
+        ensures { result ≡ counting cycle (noting cycle self) }
     {
         Tally {
-            net: self.net,
-            up: self.up.counting(cycle.activation(Direction::Up)),
-            down: self.down.counting(cycle.activation(Direction::Down)),
+            net: self.net + cycle.energy(),
+            up: self.up.with(Direction::Up, cycle),
+            down: self.down.with(Direction::Down, cycle),
         }
     }
 }
