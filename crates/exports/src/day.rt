@@ -1,8 +1,13 @@
 // A day in the book: quarters priced from their sheets, parties metered and settled, one late meter value, and
 // settled again.
-ghost use Rattle.std.specs.Prelude.{◌≡◌, ◌≤◌, length, unsigned_abs};
-ghost use Rattle.exports.specs.Days.{DayOf, not_started};
-ghost use Rattle.settlement.specs.Runs.{count_fault};
+ghost use Rattle.std.specs.Prelude.{◌≡◌, ℕ, ◌<◌, ◌≤◌, Result, false, count_by, length, unsigned_abs, vec_items, vec_len};
+ghost use Rattle.exports.specs.Days.{Alike, Buffers, DayOf, QuartersOf, has_price, meter_values, metered_all, not_started, payments_over, settled_first};
+ghost use Rattle.metering.specs.declared.imbalance.Imbalance.{Imbalance};
+ghost use Rattle.settlement.specs.Books.{Fresh, in_book, quarter_at};
+ghost use Rattle.settlement.specs.Events.{metered};
+ghost use Rattle.settlement.specs.Quarters.{is_closed};
+ghost use Rattle.settlement.specs.Runs.{Whole, count_fault};
+ghost use Rattle.settlement.specs.declared.fault.BookFault.{BookFault};
 
 use crate::plain::PlainDay;
 use metering::meter_values::MeterValues;
@@ -17,7 +22,11 @@ use units::refusal::Refusal;
 // Prices each quarter from its own sheet, from no bytes where its places are none of the sheets', and answers how many
 // have a price.
 fn price_all(book: &mut Book, sheets: &[u8], ends: &[usize]) -> usize
-    ensures { result ≤ length ends.now }
+    requires fresh { Fresh book.old }
+    requires count { vec_len book.old.quarters ≡ length ends.now }
+    ensures quarters { QuartersOf sheets.now ends.now (vec_items book.new.quarters) }
+    ensures parties { book.new.parties ≡ book.old.parties }
+    ensures priced { result ≡ count_by has_price (vec_items book.new.quarters) }
 {
     let mut priced = 0;
     let mut start = 0;
@@ -31,12 +40,14 @@ fn price_all(book: &mut Book, sheets: &[u8], ends: &[usize]) -> usize
     priced
 }
 
-// Meter values of plain numbers, made from the period and the party.
+// Meters values of plain numbers, made from the period and the party.
 fn meter(book: &mut Book, period: usize, party: usize, late: i64)
-    requires { unsigned_abs late ≤ 1_000 }
+    requires period { period < 100 }
+    requires party { party < 32 }
+    requires late { unsigned_abs late ≤ 1_000 }
+    ensures { (a : Result Imbalance BookFault) × Whole (metered period party (meter_values period party late) a) book.old book.new }
 {
-    let p = (period % 100) as i64;
-    let q = (party % 32) as i64;
+    let (p, q) = (period as i64, party as i64);
     let values = MeterValues {
         schedules: &[13 * p - 900, 7 * q - 350],
         allocated: 11 * p - 23 * q - 1_262 + late,
@@ -45,7 +56,12 @@ fn meter(book: &mut Book, period: usize, party: usize, late: i64)
     let _ = book.meter(period, party, &values);
 }
 
-fn meter_all(book: &mut Book, periods: usize, parties: usize) {
+fn meter_all(book: &mut Book, periods: usize, parties: usize)
+    requires periods { vec_len book.old.quarters ≡ periods }
+    requires parties { vec_len book.old.parties ≡ parties }
+    requires open { (p : ℕ) → is_closed (quarter_at book.old p) ≡ false }
+    ensures { Alike (in_book book.new) (metered_all (in_book book.old)) }
+{
     for period in 0..periods {
         for party in 0..parties {
             meter(book, period, party, 0);
@@ -54,7 +70,10 @@ fn meter_all(book: &mut Book, periods: usize, parties: usize) {
 }
 
 // Settles each party that has a place for its payment.
-fn settle_all(book: &mut Book, payments: &mut [i64]) {
+fn settle_all(book: &mut Book, payments: &mut [i64])
+    ensures payments { payments.new ≡ payments_over (in_book book.old) payments.old }
+    ensures book { Alike (in_book book.new) (settled_first (length payments.old) (in_book book.old)) }
+{
     for (party, payment) in payments.iter_mut().enumerate() {
         if let Ok(paid) = book.settle(party) {
             *payment = paid.cents;
@@ -81,7 +100,6 @@ impl From<StartFault> for PlainDay {
 
 /// A day of as many quarters as `ends` has places. The sheet of a quarter ends where `ends` says, and begins where
 /// the one before ends. What the parties are paid first and after the late value is put to `first` and `second`.
-/// Only the refusal of the counts is promised here; what a book pays is promised by its own calls.
 #[unsafe(no_mangle)]
 pub extern "C" fn fumeliosa_day(
     heap: Global,
@@ -91,7 +109,7 @@ pub extern "C" fn fumeliosa_day(
     first: &mut [i64],
     second: &mut [i64],
 ) -> PlainDay
-    ensures { DayOf (count_fault (length ends.now) parties) result }
+    ensures { DayOf (count_fault (length ends.now) parties) sheets.now ends.now parties (record { first = first.old; second = second.old }) (record { first = first.new; second = second.new }) result }
 {
     let mut book = match Book::start(heap, ends.len(), parties) {
         Ok(book) => book,

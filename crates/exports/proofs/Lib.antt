@@ -1,0 +1,5 @@
+pub mod Days
+pub mod Metering
+pub mod Pricing
+pub mod Settling
+pub mod Written

@@ -1,0 +1,31 @@
+use Rattle.std.proofs.Common.{◌≡◌, ◌<◌, ◌+◌, cond, get_or, length, vec_len, is_ok, arith, refl, ap, ◌∙◌, rules, subst, leb, []}
+use Rattle.std.specs.List.{slice_range}
+use Rattle.settlement.specs.Runs.{Whole}
+use Rattle.settlement.specs.Events.{priced}
+use Rattle.pricing.specs.declared.ruling.Net.TheVariants.{Zone}
+use Rattle.sheet.specs.Sheets.{sheet_meaning}
+use Rattle.exports.specs.Days.{sheet_at}
+use Rattle.exports.proofs.Pricing.{by_finnish, none_priced, one_more, part_read, priced_one}
+use Rattle.exports.proofs.day.price_all.Goals as goal
+use Rattle.exports.proofs.day.price_all.Goals.{then-is_ok, else-is_ok}
+
+pub loop-period-init : goal.loop-period-init
+loop-period-init c = none_priced c.args.sheets.now c.args.ends.now c.args.book.now c.requires.fresh c.requires.count
+
+pub loop-period-preserved : goal.loop-period-preserved
+loop-period-preserved c =
+    let i = c.loop-period.period in
+    let b = c.loop-period.book in
+    let t = c.loop-period.invariant in
+    let end = get_or c.args.ends.now i 0 in
+    let sheet : c.read-sheet.result.bytes.now ≡ sheet_at c.args.sheets.now c.args.ends.now i =
+    c.read-sheet.ensures ∙ ap (λ r. r.now) c.unwrap_or.ensures
+    ∙ part_read c.args.sheets.now c.loop-period.start end c.get.result _ refl c.get.ensures.lookup
+    ∙ ap (λ s. cond (leb end (length c.args.sheets.now)) (slice_range c.args.sheets.now s end) []) t.begins in
+    let within : i < vec_len b.quarters = omega (arith, t.count, b.quarters.ok.0, c.loop-period-test.true) in
+    let more : c.if-is_ok.priced ≡ c.loop-period.priced + cond (is_ok c.price.result) 1 0 =
+    elim c.if-is_ok.branch as (λ v. c.if-is_ok.priced ≡ c.loop-period.priced + cond (is_ok c.price.result) 1 0) [ then-is_ok w ↦ search rules | else-is_ok w ↦ search rules ] in
+    let start : c.if-is_ok.start ≡ end = search rules in
+    one_more c.args.sheets.now c.args.ends.now c.args.book.now b c.price.new.self i c.loop-period.priced c.if-is_ok.priced c.loop-period.start c.if-is_ok.start c.price.result start more t
+    (priced_one b c.price.new.self i (sheet_at c.args.sheets.now c.args.ends.now i) Zone c.price.result within (t.blank i (omega arith))
+    (subst (λ s. Whole (priced i (sheet_meaning s) (by_finnish Zone) c.price.result) b c.price.new.self) sheet c.price.ensures))
