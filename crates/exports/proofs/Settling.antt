@@ -29,9 +29,6 @@ pub record SettledTo (k b : Book) (before after : List ℤ) (i : ℕ) : Type 0 w
   pub places : (q : ℕ) → q < i → get_or after q (pos 0) ≡ cond (ltb q (vec_len k.parties)) (payable (in_book k) q) (get_or before q (pos 0))
   pub others : (q : ℕ) → i ≤ q → get_or after q (pos 0) ≡ get_or before q (pos 0)
 
-pub none_settled : (b : Book) (xs : List ℤ) → SettledTo b b xs xs 0
-none_settled b xs = record { quarters = refl; volumes = refl; parties = refl; paid = λ q l m. absurd (omega arith); unpaid = λ q l. refl; length = refl; places = λ q l. absurd (omega arith); others = λ q l. refl }
-
 -- what a book owes hangs on its quarters, volumes and payments
 same_payable : (k b : Book) (q : ℕ) → b.quarters ≡ k.quarters → volumes_in b ≡ volumes_in k → paid_to b q ≡ paid_to k q → payable (in_book b) q ≡ payable (in_book k) q
 same_payable k b q e f g = simp (e, f, g)

@@ -99,7 +99,8 @@ impl From<StartFault> for PlainDay {
 }
 
 /// A day of as many quarters as `ends` has places. The sheet of a quarter ends where `ends` says, and begins where
-/// the one before ends. What the parties are paid first and after the late value is put to `first` and `second`.
+/// the one before ends. What the parties are paid first and after the late value is put to `first` and `second`,
+/// whose places past the parties are left as they were; both are, where no book is started.
 #[unsafe(no_mangle)]
 pub extern "C" fn fumeliosa_day(
     heap: Global,
@@ -109,7 +110,7 @@ pub extern "C" fn fumeliosa_day(
     first: &mut [i64],
     second: &mut [i64],
 ) -> PlainDay
-    ensures { DayOf (count_fault (length ends.now) parties) sheets.now ends.now parties (record { first = first.old; second = second.old }) (record { first = first.new; second = second.new }) result }
+    ensures { let before : Buffers = record { first = first.old; second = second.old } in let after : Buffers = record { first = first.new; second = second.new } in DayOf (count_fault (length ends.now) parties) sheets.now ends.now parties before after result }
 {
     let mut book = match Book::start(heap, ends.len(), parties) {
         Ok(book) => book,
