@@ -130,32 +130,32 @@ took_late n b b' e t =
     }
 
 -- what the day comes to is what its books know
-pub record Steps (sheets ends : List ℕ) (m : ℕ) (b d e g h : Book) (xs : List ℤ) : Type 0 where
+pub record Steps (sheets ends : List ℕ) (m : ℕ) (b d e g h : Book) (xs : List ℤ) (a : Result Imbalance BookFault) : Type 0 where
   pub begins : Begins (length ends) m b
   pub prices : QuartersOf sheets ends (vec_items d.quarters)
   pub parties : d.parties ≡ b.parties
   pub all : Alike (in_book e) (metered_all (in_book d))
   pub settled : Alike (in_book g) (settled_first (length xs) (in_book e))
-  pub late : (a : Result Imbalance BookFault) × Whole (metered (length ends - 1) 0 (meter_values (length ends - 1) 0 (pos 65)) a) g h
+  pub late : Whole (metered (length ends - 1) 0 (meter_values (length ends - 1) 0 (pos 65)) a) g h
 
-at_first : (sheets ends : List ℕ) (m : ℕ) (b d e g h : Book) (xs : List ℤ) → Steps sheets ends m b d e g h xs → Alike (in_book e) (metered_all (unmetered m (vec_items d.quarters)))
-at_first sheets ends m b d e g h xs s =
+at_first : (sheets ends : List ℕ) (m : ℕ) (b d e g h : Book) (xs : List ℤ) (a : Result Imbalance BookFault) → Steps sheets ends m b d e g h xs a → Alike (in_book e) (metered_all (unmetered m (vec_items d.quarters)))
+at_first sheets ends m b d e g h xs a s =
     along _ _ _ s.all (metered_alike _ _ (priced_only (length ends) m b d s.begins s.parties (d.quarters.ok.0 ∙ s.prices.count)))
 
-at_last : (sheets ends : List ℕ) (m : ℕ) (b d e g h : Book) (xs : List ℤ) → Steps sheets ends m b d e g h xs → Alike (in_book h) (metered_late (settled_first (length xs) (metered_all (unmetered m (vec_items d.quarters)))))
-at_last sheets ends m b d e g h xs s =
-    let known = along _ _ _ s.settled (settled_alike (length xs) _ _ (at_first sheets ends m b d e g h xs s)) in
+at_last : (sheets ends : List ℕ) (m : ℕ) (b d e g h : Book) (xs : List ℤ) (a : Result Imbalance BookFault) → Steps sheets ends m b d e g h xs a → Alike (in_book h) (metered_late (settled_first (length xs) (metered_all (unmetered m (vec_items d.quarters)))))
+at_last sheets ends m b d e g h xs a s =
+    let known = along _ _ _ s.settled (settled_alike (length xs) _ _ (at_first sheets ends m b d e g h xs a s)) in
     let n : vec_len g.quarters ≡ length ends = known.periods ∙ s.prices.count in
     let c = s.begins.counts in
     let some : 1 ≤ length ends = omega (arith, n, g.counts.0) in
-    let t = took g h (length ends - 1) 0 (pos 65) (omega (arith, n, some)) (omega (arith, g.counts.2)) (omega arith) (ap is_closed (known.quarter (length ends - 1)) ∙ unclosed sheets ends (vec_items d.quarters) (length ends - 1) s.prices) s.late in
+    let t = took g h (length ends - 1) 0 (pos 65) a (omega (arith, n, some)) (omega (arith, g.counts.2)) (omega arith) (ap is_closed (known.quarter (length ends - 1)) ∙ unclosed sheets ends (vec_items d.quarters) (length ends - 1) s.prices) s.late in
     along _ _ _ (took_late (length ends) g h n t) (late_alike _ _ known)
 
-pub both_paid : (sheets ends : List ℕ) (m : ℕ) (b d e g h : Book) (first second first' second' : List ℤ) (n : ℕ) → Steps sheets ends m b d e g h first → first' ≡ payments_over (in_book e) first → second' ≡ payments_over (in_book h) second → n ≡ count_by has_price (vec_items d.quarters) → Settled sheets ends m (record { first = first; second = second }) (record { first = first'; second = second' }) (record { started = true; refusal = 0; place = 0; priced = n })
-both_paid sheets ends m b d e g h first second first' second' n s x y z = record {
+pub both_paid : (sheets ends : List ℕ) (m : ℕ) (b d e g h : Book) (first second first' second' : List ℤ) (n : ℕ) (a : Result Imbalance BookFault) → Steps sheets ends m b d e g h first a → first' ≡ payments_over (in_book e) first → second' ≡ payments_over (in_book h) second → n ≡ count_by has_price (vec_items d.quarters) → Settled sheets ends m (record { first = first; second = second }) (record { first = first'; second = second' }) (record { started = true; refusal = 0; place = 0; priced = n })
+both_paid sheets ends m b d e g h first second first' second' n a s x y z = record {
   quarters = vec_items d.quarters;
   prices = s.prices;
   answer = ap (λ k. record { started = true; refusal = 0; place = 0; priced = k }) z;
-  first = x ∙ same_payments _ _ first (at_first sheets ends m b d e g h first s);
-  second = y ∙ same_payments _ _ second (at_last sheets ends m b d e g h first s);
+  first = x ∙ same_payments _ _ first (at_first sheets ends m b d e g h first a s);
+  second = y ∙ same_payments _ _ second (at_last sheets ends m b d e g h first a s);
 }

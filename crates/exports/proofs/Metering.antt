@@ -70,8 +70,8 @@ answered b b' p q v (Err f) lp lq n w =
     never (imbalance v) f (sym (e ∙ ap (λ o. unless_fault o (imbalance v)) n))
 
 -- the values of the day are taken where the book has the period and the party, and the quarter is not closed
-pub took : (b b' : Book) (p q : ℕ) (late : ℤ) → p < vec_len b.quarters → q < vec_len b.parties → nat_abs late ≤ 1_000 → is_closed (quarter_at b p) ≡ false → (a : Result Imbalance BookFault) × Whole (metered p q (meter_values p q late) a) b b' → Took b b' p q (imbalance (meter_values p q late))
-took b b' p q late lp lq ll c (a, w) =
+pub took : (b b' : Book) (p q : ℕ) (late : ℤ) (a : Result Imbalance BookFault) → p < vec_len b.quarters → q < vec_len b.parties → nat_abs late ≤ 1_000 → is_closed (quarter_at b p) ≡ false → Whole (metered p q (meter_values p q late) a) b b' → Took b b' p q (imbalance (meter_values p q late))
+took b b' p q late a lp lq ll c w =
     answered b b' p q (meter_values p q late) a lp lq
     (no_fault (in_book b) p q (meter_values p q late) lp lq c (passed p q late (omega (arith, lp, b.counts.1)) (omega (arith, lq, b.counts.3)) ll))
     w

@@ -1,20 +1,19 @@
 // A day in the book: quarters priced from their sheets, parties metered and settled, one late meter value, and
 // settled again.
-ghost use Rattle.std.specs.Prelude.{◌≡◌, ℕ, ◌<◌, ◌≤◌, Result, false, count_by, length, unsigned_abs, vec_items, vec_len};
+ghost use Rattle.std.specs.Prelude.{◌≡◌, ℕ, ◌<◌, ◌≤◌, false, count_by, length, unsigned_abs, vec_items, vec_len};
 ghost use Rattle.exports.specs.Days.{Alike, Buffers, DayOf, QuartersOf, has_price, meter_values, metered_all, not_started, payments_over, settled_first};
-ghost use Rattle.metering.specs.declared.imbalance.Imbalance.{Imbalance};
 ghost use Rattle.settlement.specs.Books.{Fresh, in_book, quarter_at};
 ghost use Rattle.settlement.specs.Events.{metered};
 ghost use Rattle.settlement.specs.Quarters.{is_closed};
 ghost use Rattle.settlement.specs.Runs.{Whole, count_fault};
-ghost use Rattle.settlement.specs.declared.fault.BookFault.{BookFault};
 
 use crate::plain::PlainDay;
+use metering::imbalance::Imbalance;
 use metering::meter_values::MeterValues;
 use pricing::rulebook::Rulebook;
 use pricing::rulebooks::Finnish;
 use settlement::book::Book;
-use settlement::fault::StartFault;
+use settlement::fault::{BookFault, StartFault};
 use sheet::sheet::Sheet;
 use std::alloc::Global;
 use units::refusal::Refusal;
@@ -40,12 +39,12 @@ fn price_all(book: &mut Book, sheets: &[u8], ends: &[usize]) -> usize
     priced
 }
 
-// Meters values of plain numbers, made from the period and the party.
-fn meter(book: &mut Book, period: usize, party: usize, late: i64)
+// Meters values of plain numbers, made from the period and the party. Answers as the book does.
+fn meter(book: &mut Book, period: usize, party: usize, late: i64) -> Result<Imbalance, BookFault>
     requires period { period < 100 }
     requires party { party < 32 }
     requires late { unsigned_abs late ≤ 1_000 }
-    ensures { (a : Result Imbalance BookFault) × Whole (metered period party (meter_values period party late) a) book.old book.new }
+    ensures { Whole (metered period party (meter_values period party late) result) book.old book.new }
 {
     let (p, q) = (period as i64, party as i64);
     let values = MeterValues {
@@ -53,7 +52,7 @@ fn meter(book: &mut Book, period: usize, party: usize, late: i64)
         allocated: 11 * p - 23 * q - 1_262 + late,
         adjustment: q - 16,
     };
-    let _ = book.meter(period, party, &values);
+    book.meter(period, party, &values)
 }
 
 fn meter_all(book: &mut Book, periods: usize, parties: usize)
@@ -64,7 +63,7 @@ fn meter_all(book: &mut Book, periods: usize, parties: usize)
 {
     for period in 0..periods {
         for party in 0..parties {
-            meter(book, period, party, 0);
+            let _ = meter(book, period, party, 0);
         }
     }
 }
@@ -119,7 +118,7 @@ pub extern "C" fn fumeliosa_day(
     let priced = price_all(&mut book, sheets, ends);
     meter_all(&mut book, ends.len(), parties);
     settle_all(&mut book, first);
-    meter(&mut book, ends.len() - 1, 0, 65);
+    let _ = meter(&mut book, ends.len() - 1, 0, 65);
     settle_all(&mut book, second);
     PlainDay {
         started: true,

@@ -13,7 +13,7 @@ loop-party-preserved c =
     let n : vec_len b.quarters ≡ vec_len k.quarters = ap vec_len m.quarters in
     let unclosed : is_closed (quarter_at b c.loop-period.period) ≡ false = ap (λ v. is_closed (get_or (vec_items v) c.loop-period.period Blank)) m.quarters ∙ c.requires.open c.loop-period.period in
     one_more k b c.meter.new.book c.loop-period.period c.loop-party.party m
-    (took b c.meter.new.book c.loop-period.period c.loop-party.party (pos 0)
+    (took b c.meter.new.book c.loop-period.period c.loop-party.party (pos 0) c.meter.result
     (omega (arith, n, c.requires.periods, c.loop-period-test.true)) (omega (arith, m.parties, c.requires.parties, c.loop-party-test.true)) (omega arith) unclosed c.meter.ensures)
 
 pub loop-period-preserved : goal.loop-period-preserved
