@@ -18,7 +18,7 @@ use Rattle.settlement.specs.declared.quarter.Quarter.{Quarter}
 use Rattle.settlement.specs.declared.quarter.Quarter.TheVariants.{Blank, Priced, Closed}
 use Rattle.settlement.proofs.Kept.{all_same}
 use Rattle.settlement.proofs.Sums.{sum_same}
-use Rattle.exports.specs.Days.{Alike, Settled, has_price, QuarterOf, QuartersOf, meter_values, metered_all, metered_late, payments_over, settled_first, sheet_at, unmetered}
+use Rattle.exports.specs.Days.{Alike, Buffers, Settled, has_price, QuarterOf, QuartersOf, meter_values, metered_all, metered_late, payments_over, settled_first, sheet_at, unmetered}
 use Rattle.exports.proofs.Metering.{Took, took}
 
 -- WHAT IS KNOWN ALIKE
@@ -62,7 +62,7 @@ same_payments k l xs a =
 metered_alike : (k l : Known) → Alike k l → Alike (metered_all k) (metered_all l)
 metered_alike k l a = record { periods = a.periods; parties = a.parties; quarter = a.quarter; volume = λ p q x y. refl; paid = a.paid }
 
-pub late_alike : (k l : Known) → Alike k l → Alike (metered_late k) (metered_late l)
+late_alike : (k l : Known) → Alike k l → Alike (metered_late k) (metered_late l)
 late_alike k l a = record {
   periods = a.periods;
   parties = a.parties;
@@ -102,7 +102,7 @@ not_closed s Blank h = refl
 not_closed s (Priced q) h = refl
 not_closed s (Closed q) h = absurd h
 
-pub unclosed : (sheets ends : List ℕ) (quarters : List Quarter) (p : ℕ) → QuartersOf sheets ends quarters → is_closed (get_or quarters p Blank) ≡ false
+unclosed : (sheets ends : List ℕ) (quarters : List Quarter) (p : ℕ) → QuartersOf sheets ends quarters → is_closed (get_or quarters p Blank) ≡ false
 unclosed sheets ends quarters p o =
     ⊎_elim
     (λ (l : p < length ends). not_closed (sheet_at sheets ends p) (get_or quarters p Blank) (o.each p l))
@@ -110,7 +110,7 @@ unclosed sheets ends quarters p o =
     (cases_lt p (length ends))
 
 -- the late value of party 0 in the last period
-pub took_late : (n : ℕ) (b b' : Book) → vec_len b.quarters ≡ n → Took b b' (n - 1) 0 (imbalance (meter_values (n - 1) 0 (pos 65))) → Alike (in_book b') (metered_late (in_book b))
+took_late : (n : ℕ) (b b' : Book) → vec_len b.quarters ≡ n → Took b b' (n - 1) 0 (imbalance (meter_values (n - 1) 0 (pos 65))) → Alike (in_book b') (metered_late (in_book b))
 took_late n b b' e t =
     let test : ℕ → ℕ → Bool = λ p q. (eqb (suc p) (vec_len b.quarters)) && (eqb q 0) in
     record {
@@ -129,33 +129,42 @@ took_late n b b' e t =
       paid = λ q y. ap (λ ps. (get_or ps q nothing).cents) t.paid;
     }
 
--- what the day comes to is what its books know
-pub record Steps (sheets ends : List ℕ) (m : ℕ) (b d e g h : Book) (xs : List ℤ) (a : Result Imbalance BookFault) : Type 0 where
-  pub begins : Begins (length ends) m b
-  pub prices : QuartersOf sheets ends (vec_items d.quarters)
-  pub parties : d.parties ≡ b.parties
-  pub all : Alike (in_book e) (metered_all (in_book d))
-  pub settled : Alike (in_book g) (settled_first (length xs) (in_book e))
-  pub late : Whole (metered (length ends - 1) 0 (meter_values (length ends - 1) 0 (pos 65)) a) g h
+-- the books of a day, each after a step, and what the steps leave
+pub record Steps (sheets ends : List ℕ) (m : ℕ) (before after : Buffers) (n : ℕ) : Type 0 where
+  pub started : Book
+  pub quoted : Book
+  pub measured : Book
+  pub paid : Book
+  pub corrected : Book
+  pub answer : Result Imbalance BookFault
+  pub begins : Begins (length ends) m started
+  pub prices : QuartersOf sheets ends (vec_items quoted.quarters)
+  pub parties : quoted.parties ≡ started.parties
+  pub many : n ≡ count_by has_price (vec_items quoted.quarters)
+  pub all : Alike (in_book measured) (metered_all (in_book quoted))
+  pub first : after.first ≡ payments_over (in_book measured) before.first
+  pub settled : Alike (in_book paid) (settled_first (length before.first) (in_book measured))
+  pub late : Whole (metered (length ends - 1) 0 (meter_values (length ends - 1) 0 (pos 65)) answer) paid corrected
+  pub second : after.second ≡ payments_over (in_book corrected) before.second
 
-at_first : (sheets ends : List ℕ) (m : ℕ) (b d e g h : Book) (xs : List ℤ) (a : Result Imbalance BookFault) → Steps sheets ends m b d e g h xs a → Alike (in_book e) (metered_all (unmetered m (vec_items d.quarters)))
-at_first sheets ends m b d e g h xs a s =
-    along _ _ _ s.all (metered_alike _ _ (priced_only (length ends) m b d s.begins s.parties (d.quarters.ok.0 ∙ s.prices.count)))
+module _ (sheets ends : List ℕ) (m : ℕ) (before after : Buffers) (n : ℕ) (s : Steps sheets ends m before after n) where
+  at_first : Alike (in_book s.measured) (metered_all (unmetered m (vec_items s.quoted.quarters)))
+  at_first = along _ _ _ s.all (metered_alike _ _ (priced_only (length ends) m s.started s.quoted s.begins s.parties (s.quoted.quarters.ok.0 ∙ s.prices.count)))
 
-at_last : (sheets ends : List ℕ) (m : ℕ) (b d e g h : Book) (xs : List ℤ) (a : Result Imbalance BookFault) → Steps sheets ends m b d e g h xs a → Alike (in_book h) (metered_late (settled_first (length xs) (metered_all (unmetered m (vec_items d.quarters)))))
-at_last sheets ends m b d e g h xs a s =
-    let known = along _ _ _ s.settled (settled_alike (length xs) _ _ (at_first sheets ends m b d e g h xs a s)) in
-    let n : vec_len g.quarters ≡ length ends = known.periods ∙ s.prices.count in
-    let c = s.begins.counts in
-    let some : 1 ≤ length ends = omega (arith, n, g.counts.0) in
-    let t = took g h (length ends - 1) 0 (pos 65) a (omega (arith, n, some)) (omega (arith, g.counts.2)) (omega arith) (ap is_closed (known.quarter (length ends - 1)) ∙ unclosed sheets ends (vec_items d.quarters) (length ends - 1) s.prices) s.late in
-    along _ _ _ (took_late (length ends) g h n t) (late_alike _ _ known)
+  at_last : Alike (in_book s.corrected) (metered_late (settled_first (length before.first) (metered_all (unmetered m (vec_items s.quoted.quarters)))))
+  at_last =
+      let known = along _ _ _ s.settled (settled_alike (length before.first) _ _ at_first) in
+      let e : vec_len s.paid.quarters ≡ length ends = known.periods ∙ s.prices.count in
+      let within : length ends - 1 < vec_len s.paid.quarters = omega (arith, e, s.paid.counts.0) in
+      let open_quarter = ap is_closed (known.quarter (length ends - 1)) ∙ unclosed sheets ends (vec_items s.quoted.quarters) (length ends - 1) s.prices in
+      let t = took s.paid s.corrected (length ends - 1) 0 (pos 65) s.answer within s.paid.counts.2 (omega arith) open_quarter s.late in
+      along _ _ _ (took_late (length ends) s.paid s.corrected e t) (late_alike _ _ known)
 
-pub both_paid : (sheets ends : List ℕ) (m : ℕ) (b d e g h : Book) (first second first' second' : List ℤ) (n : ℕ) (a : Result Imbalance BookFault) → Steps sheets ends m b d e g h first a → first' ≡ payments_over (in_book e) first → second' ≡ payments_over (in_book h) second → n ≡ count_by has_price (vec_items d.quarters) → Settled sheets ends m (record { first = first; second = second }) (record { first = first'; second = second' }) (record { started = true; refusal = 0; place = 0; priced = n })
-both_paid sheets ends m b d e g h first second first' second' n a s x y z = record {
-  quarters = vec_items d.quarters;
-  prices = s.prices;
-  answer = ap (λ k. record { started = true; refusal = 0; place = 0; priced = k }) z;
-  first = x ∙ same_payments _ _ first (at_first sheets ends m b d e g h first a s);
-  second = y ∙ same_payments _ _ second (at_last sheets ends m b d e g h first a s);
-}
+  pub as_settled : Settled sheets ends m before after (record { started = true; refusal = 0; place = 0; priced = n })
+  as_settled = record {
+    quarters = vec_items s.quoted.quarters;
+    prices = s.prices;
+    answer = ap (λ k. record { started = true; refusal = 0; place = 0; priced = k }) s.many;
+    first = s.first ∙ same_payments _ _ before.first at_first;
+    second = s.second ∙ same_payments _ _ before.second at_last;
+  }

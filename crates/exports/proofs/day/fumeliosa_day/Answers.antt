@@ -1,12 +1,30 @@
 use Rattle.std.proofs.Common.{true, inr, subst, sym}
-use Rattle.exports.specs.Days.{DayOf}
-use Rattle.exports.proofs.Days.{both_paid}
+use Rattle.exports.specs.Days.{Buffers, DayOf}
+use Rattle.exports.proofs.Days.{Steps, as_settled}
 use Rattle.exports.proofs.day.fumeliosa_day.Goals as goal
 
 pub returns : goal.returns
 returns c =
-    subst (λ f. DayOf f c.args.sheets.now c.args.ends.now c.args.parties (record { first = c.args.first.now; second = c.args.second.now }) (record { first = c.settle_all.new.payments; second = c.settle_all-2.new.payments }) (record { started = true; refusal = 0; place = 0; priced = c.price_all-priced.result }))
+    let before : Buffers = record { first = c.args.first.now; second = c.args.second.now } in
+    let after : Buffers = record { first = c.settle_all.new.payments; second = c.settle_all-2.new.payments } in
+    let n = c.price_all-priced.result in
+    let steps : Steps c.args.sheets.now c.args.ends.now c.args.parties before after n = record {
+      started = c.in-Ok.book;
+      quoted = c.price_all-priced.new.book;
+      measured = c.meter_all.new.book;
+      paid = c.settle_all.new.book;
+      corrected = c.meter.new.book;
+      answer = c.meter.result;
+      begins = c.in-Ok.ensures;
+      prices = c.price_all-priced.ensures.quarters;
+      parties = c.price_all-priced.ensures.parties;
+      many = c.price_all-priced.ensures.priced;
+      all = c.meter_all.ensures;
+      first = c.settle_all.ensures.payments;
+      settled = c.settle_all.ensures.book;
+      late = c.meter.ensures;
+      second = c.settle_all-2.ensures.payments;
+    } in
+    subst (λ f. DayOf f c.args.sheets.now c.args.ends.now c.args.parties before after (record { started = true; refusal = 0; place = 0; priced = n }))
     (sym c.in-Ok.ensures.counts)
-    (inr (both_paid c.args.sheets.now c.args.ends.now c.args.parties c.in-Ok.book c.price_all-priced.new.book c.meter_all.new.book c.settle_all.new.book c.meter.new.book c.args.first.now c.args.second.now _ _ _ c.meter.result
-    (record { begins = c.in-Ok.ensures; prices = c.price_all-priced.ensures.quarters; parties = c.price_all-priced.ensures.parties; all = c.meter_all.ensures; settled = c.settle_all.ensures.book; late = c.meter.ensures })
-    c.settle_all.ensures.payments c.settle_all-2.ensures.payments c.price_all-priced.ensures.priced))
+    (inr (as_settled c.args.sheets.now c.args.ends.now c.args.parties before after n steps))
