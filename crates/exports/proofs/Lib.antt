@@ -2,4 +2,3 @@ pub mod Days
 pub mod Metering
 pub mod Pricing
 pub mod Settling
-pub mod Written

@@ -15,7 +15,7 @@ use Rattle.settlement.specs.declared.fault.BookFault.{BookFault}
 use Rattle.settlement.proofs.Checks.{never, party_within, period_within}
 use Rattle.settlement.proofs.Readings.{metered_counts, volumes_long}
 use Rattle.exports.specs.Days.{meter_values}
-use Rattle.exports.proofs.Written.{written}
+use Rattle.settlement.proofs.Kept.{written}
 
 within : (z : ℤ) → nat_abs z ≤ 5_000_000 → in_bounds z ≡ true
 within z l = le-leb (nat_abs z) 5_000_000 l

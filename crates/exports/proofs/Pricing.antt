@@ -26,7 +26,7 @@ use Rattle.settlement.proofs.Checks.{never, period_within, pricing_accepted}
 use Rattle.sheet.specs.Sheets.{sheet_meaning}
 use Rattle.source.specs.Meanings.{Meaning}
 use Rattle.exports.specs.Days.{QuarterOf, has_price, sheet_at, sheet_start}
-use Rattle.exports.proofs.Written.{written}
+use Rattle.settlement.proofs.Kept.{written}
 
 none_either : (t : Bool) (x : List ℕ) → x ≡ [] → cond t x [] ≡ []
 none_either true x e = e

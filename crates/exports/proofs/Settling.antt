@@ -16,7 +16,7 @@ use Rattle.settlement.specs.declared.fault.BookFault.{BookFault}
 use Rattle.settlement.proofs.Checks.{never, party_known, party_within}
 use Rattle.settlement.proofs.Readings.{paid_counts}
 use Rattle.exports.specs.Days.{payments_over}
-use Rattle.exports.proofs.Written.{written}
+use Rattle.settlement.proofs.Kept.{written}
 
 -- the first i parties of the book k are settled, and have their payments in their places
 pub record SettledTo (k b : Book) (before after : List ℤ) (i : ℕ) : Type 0 where

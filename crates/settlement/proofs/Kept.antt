@@ -47,7 +47,7 @@ pub record Reached (h : List Event) (b : Book) : Type 0 where
 -- A PLACE THAT IS WRITTEN, AND THE OTHERS
 
 -- the element at j of a list that was written at i
-written : {X : Type 0} (xs : List X) (i j : ℕ) (x d : X) (P : X → Type 0) → i < length xs → (i ≡ j → P x) → ((i ≡ j → ⊥) → P (get_or xs j d)) → P (get_or (set xs i x) j d)
+pub written : {X : Type 0} (xs : List X) (i j : ℕ) (x d : X) (P : X → Type 0) → i < length xs → (i ≡ j → P x) → ((i ≡ j → ⊥) → P (get_or xs j d)) → P (get_or (set xs i x) j d)
 written xs i j x d P l new old =
     ⊎_elim
     (λ (s : i ≡ j). subst (λ (k : ℕ). P (get_or (set xs i x) k d)) s (subst P (sym (get_or-set_same xs i x d l)) (new s)))
