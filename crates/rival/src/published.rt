@@ -28,18 +28,48 @@ pub(crate) struct Case {
     pub unit: u32,
 }
 
+// Area A of each table of the Swedish slides; worked by hand under codes 1 to 5.
+const THREE_LEVELS: &[Block] = &[
+    Block(0, 74, 100_000, Some(20_000), None),
+    Block(75, 149, 100_000, Some(40_000), None),
+    Block(150, 224, 100_000, Some(70_000), None),
+    Block(225, 225, 300_000, Some(10_000), None),
+    Block(226, 226, 100_000, Some(100_000), None),
+];
+
+// 15:00 of the Finnish note, which is worked by hand too.
+const MANUAL_ACTIVATED: &[Block] = &[
+    Block(0, 224, 80_000, Some(10_000), None),
+    Block(225, 225, 200_000, Some(5_000), None),
+];
+
+// 15:45 of the Finnish note, which is worked by hand too.
+const MANUAL_FORMED: &[Block] = &[
+    Block(0, 224, 200_000, Some(5_000), None),
+    Block(225, 225, 0, Some(10_000), None),
+];
+
+// Demand both ways with a net of 0.
+const BALANCED: &[Block] = &[
+    Block(0, 0, 1, Some(1_000), None),
+    Block(1, 1, -1, None, Some(500)),
+];
+
+// Areas without demand of the Swedish slides; the prices are those of the whole zone.
+const NO_DEMAND: &[Block] = &[
+    Block(0, 74, 0, Some(20_000), None),
+    Block(75, 149, 0, Some(40_000), None),
+    Block(150, 224, 0, Some(70_000), None),
+    Block(225, 225, 0, Some(10_000), None),
+    Block(226, 226, 0, Some(100_000), None),
+];
+
 pub(crate) static CASES: [Case; 22] = [
     Case {
         name: "three price levels",
         zone_net: 400_000,
         avoided: Some(5_000),
-        blocks: &[
-            Block(0, 74, 100_000, Some(20_000), None),
-            Block(75, 149, 100_000, Some(40_000), None),
-            Block(150, 224, 100_000, Some(70_000), None),
-            Block(225, 225, 300_000, Some(10_000), None),
-            Block(226, 226, 100_000, Some(100_000), None),
-        ],
+        blocks: THREE_LEVELS,
         stated: [
             Some(Ok(Up(34_667))),
             Some(Ok(Up(100_000))),
@@ -53,10 +83,7 @@ pub(crate) static CASES: [Case; 22] = [
         name: "manual energy activated",
         zone_net: 200_000,
         avoided: None,
-        blocks: &[
-            Block(0, 224, 80_000, Some(10_000), None),
-            Block(225, 225, 200_000, Some(5_000), None),
-        ],
+        blocks: MANUAL_ACTIVATED,
         stated: [None, None, None, None, Some(Ok(Up(6_429)))],
         unit: 1,
     },
@@ -64,10 +91,7 @@ pub(crate) static CASES: [Case; 22] = [
         name: "manual price formed only",
         zone_net: 400_000,
         avoided: None,
-        blocks: &[
-            Block(0, 224, 200_000, Some(5_000), None),
-            Block(225, 225, 0, Some(10_000), None),
-        ],
+        blocks: MANUAL_FORMED,
         stated: [Some(Ok(Up(5_000))), None, None, None, Some(Ok(Up(10_000)))],
         unit: 1,
     },
@@ -94,10 +118,7 @@ pub(crate) static CASES: [Case; 22] = [
         name: "balanced",
         zone_net: 0,
         avoided: Some(700),
-        blocks: &[
-            Block(0, 0, 1, Some(1_000), None),
-            Block(1, 1, -1, None, Some(500)),
-        ],
+        blocks: BALANCED,
         stated: [
             Some(Ok(Avoided(700))),
             Some(Ok(Avoided(700))),
@@ -111,10 +132,7 @@ pub(crate) static CASES: [Case; 22] = [
         name: "balanced, no avoided value",
         zone_net: 0,
         avoided: None,
-        blocks: &[
-            Block(0, 0, 1, Some(1_000), None),
-            Block(1, 1, -1, None, Some(500)),
-        ],
+        blocks: BALANCED,
         stated: [NO_VALUE, NO_VALUE, NO_VALUE, NO_VALUE, None],
         unit: 1,
     },
@@ -122,10 +140,7 @@ pub(crate) static CASES: [Case; 22] = [
         name: "Finnish note, 15:00",
         zone_net: 200_000,
         avoided: None,
-        blocks: &[
-            Block(0, 224, 80_000, Some(10_000), None),
-            Block(225, 225, 200_000, Some(5_000), None),
-        ],
+        blocks: MANUAL_ACTIVATED,
         stated: [None, None, None, None, Some(Ok(Up(6_429)))],
         unit: 1,
     },
@@ -155,10 +170,7 @@ pub(crate) static CASES: [Case; 22] = [
         name: "Finnish note, 15:45",
         zone_net: 400_000,
         avoided: None,
-        blocks: &[
-            Block(0, 224, 200_000, Some(5_000), None),
-            Block(225, 225, 0, Some(10_000), None),
-        ],
+        blocks: MANUAL_FORMED,
         stated: [None, None, None, None, Some(Ok(Up(10_000)))],
         unit: 1,
     },
@@ -248,13 +260,7 @@ pub(crate) static CASES: [Case; 22] = [
         name: "Swedish slides, costly direct activation, area A",
         zone_net: 400_000,
         avoided: None,
-        blocks: &[
-            Block(0, 74, 100_000, Some(20_000), None),
-            Block(75, 149, 100_000, Some(40_000), None),
-            Block(150, 224, 100_000, Some(70_000), None),
-            Block(225, 225, 300_000, Some(10_000), None),
-            Block(226, 226, 100_000, Some(100_000), None),
-        ],
+        blocks: THREE_LEVELS,
         stated: [
             Some(Ok(Up(34_700))),
             Some(Ok(Up(100_000))),
@@ -268,13 +274,7 @@ pub(crate) static CASES: [Case; 22] = [
         name: "Swedish slides, costly direct activation, areas B and C",
         zone_net: 400_000,
         avoided: None,
-        blocks: &[
-            Block(0, 74, 0, Some(20_000), None),
-            Block(75, 149, 0, Some(40_000), None),
-            Block(150, 224, 0, Some(70_000), None),
-            Block(225, 225, 0, Some(10_000), None),
-            Block(226, 226, 0, Some(100_000), None),
-        ],
+        blocks: NO_DEMAND,
         stated: [None, None, None, None, None],
         unit: 100,
     },
@@ -282,13 +282,7 @@ pub(crate) static CASES: [Case; 22] = [
         name: "Swedish slides, netted area, area A",
         zone_net: 300_000,
         avoided: Some(5_000),
-        blocks: &[
-            Block(0, 74, 100_000, Some(20_000), None),
-            Block(75, 149, 100_000, Some(40_000), None),
-            Block(150, 224, 100_000, Some(70_000), None),
-            Block(225, 225, 300_000, Some(10_000), None),
-            Block(226, 226, 100_000, Some(100_000), None),
-        ],
+        blocks: THREE_LEVELS,
         stated: [
             Some(Ok(Up(34_700))),
             Some(Ok(Up(100_000))),
@@ -322,13 +316,7 @@ pub(crate) static CASES: [Case; 22] = [
         name: "Swedish slides, netted area, area C",
         zone_net: 300_000,
         avoided: Some(5_000),
-        blocks: &[
-            Block(0, 74, 0, Some(20_000), None),
-            Block(75, 149, 0, Some(40_000), None),
-            Block(150, 224, 0, Some(70_000), None),
-            Block(225, 225, 0, Some(10_000), None),
-            Block(226, 226, 0, Some(100_000), None),
-        ],
+        blocks: NO_DEMAND,
         stated: [
             Some(Ok(Avoided(5_000))),
             Some(Ok(Avoided(5_000))),
@@ -342,13 +330,7 @@ pub(crate) static CASES: [Case; 22] = [
         name: "Swedish slides, demand both ways, area A",
         zone_net: 500_000,
         avoided: None,
-        blocks: &[
-            Block(0, 74, 100_000, Some(20_000), None),
-            Block(75, 149, 100_000, Some(40_000), None),
-            Block(150, 224, 100_000, Some(70_000), None),
-            Block(225, 225, 300_000, Some(10_000), None),
-            Block(226, 226, 100_000, Some(100_000), None),
-        ],
+        blocks: THREE_LEVELS,
         stated: [
             Some(Ok(Up(34_700))),
             Some(Ok(Up(100_000))),
