@@ -1,0 +1,15 @@
+-- What a quarter that a text tells means.
+use Rattle.std.specs.Prelude.{None, Option, slice_index_or}
+use Rattle.std.specs.Option.{unwrap_or}
+use Rattle.source.specs.Meanings.{Meaning}
+use Rattle.source.specs.Slots.{Slot}
+use Rattle.source.specs.Tables.{no_row, row_slot}
+use Rattle.quarter_text.specs.declared.quarter.Quarter.{Quarter}
+
+-- reported, with demand 0 and no price
+abbrev pub idle : Slot
+idle = row_slot no_row
+
+-- a slot that is not named is idle
+abbrev pub meaning_of : Quarter → Meaning
+meaning_of q = record { slots = λ k. unwrap_or (slice_index_or q.named k None) idle; zone = q.zone_net; avoided = q.avoided }

@@ -1,0 +1,70 @@
+-- The text of what a source means.
+use Rattle.std.specs.Prelude.{ℕ, zero, suc, ◌+◌, Bool, true, false, not, cond, ◌&&◌, ◌||◌, List, [], ◌∷◌, ◌++◌, ℤ, Some, None, Option, ◌==◌, nat_le, decimal, codes}
+use Rattle.std.specs.Fmt.{signed_decimal}
+use Rattle.std.specs.Ordering.{int_eq}
+use Rattle.source.specs.Meanings.{Meaning}
+use Rattle.source.specs.Slots.{Slot}
+use Rattle.source.specs.declared.slot.Reading.{Reading}
+use Rattle.units.specs.Text.{euros}
+use Rattle.units.specs.declared.price.Price.{Price}
+use Rattle.quarter_text.specs.Quarters.{idle}
+
+-- euros, or a - where there is no price
+abbrev pub price_text : Option Price → List ℕ
+price_text None = codes "-"
+price_text (Some p) = euros p.cents
+
+-- a cycle or a range of cycles, or the word of a manual slot
+abbrev pub slots_text : ℕ → ℕ → List ℕ
+slots_text a b =
+    cond (a == 225) (codes "scheduled")
+    (cond (a == 226) (codes "up") (cond (a == 227) (codes "down") (cond (a == b) (decimal a) (decimal a ++ (45 ∷ decimal b)))))
+
+abbrev pub told_text : Slot → List ℕ
+told_text None = codes "unreported"
+told_text (Some r) = signed_decimal r.demand.kw ++ (32 ∷ (price_text r.up ++ (32 ∷ price_text r.down)))
+
+-- the line of the slots from a to b
+abbrev pub run_text : ℕ → ℕ → Slot → List ℕ
+run_text a b s = slots_text a b ++ (32 ∷ (told_text s ++ (10 ∷ [])))
+
+abbrev pub same_price : Option Price → Option Price → Bool
+same_price None None = true
+same_price None (Some q) = false
+same_price (Some p) None = false
+same_price (Some p) (Some q) = int_eq p.cents q.cents
+
+abbrev pub same_slot : Slot → Slot → Bool
+same_slot None None = true
+same_slot None (Some b) = false
+same_slot (Some a) None = false
+same_slot (Some a) (Some b) = int_eq a.demand.kw b.demand.kw && same_price a.up b.up && same_price a.down b.down
+
+-- equal cycles that follow one another stand on one line; k is the last of such a run
+unfoldable pub ends_run : (ℕ → Slot) → ℕ → Bool
+ends_run m k = nat_le 224 k || not (same_slot (m k) (m (k + 1)))
+
+-- the first slot of the run in which k stands
+unfoldable pub run_start : (ℕ → Slot) → ℕ → ℕ
+run_start m zero = 0
+run_start m (suc k) = cond (ends_run m k) (suc k) (run_start m k)
+
+-- idle slots have no line
+abbrev pub shown_run : ℕ → ℕ → Slot → List ℕ
+shown_run a b s = cond (same_slot s idle) [] (run_text a b s)
+
+-- the line of the run that ends at k, if one does
+abbrev pub line_of : (ℕ → Slot) → ℕ → List ℕ
+line_of m k = cond (ends_run m k) (shown_run (run_start m k) k (m k)) []
+
+-- the lines of the first n slots
+unfoldable pub lines_to : (ℕ → Slot) → ℕ → List ℕ
+lines_to m zero = []
+lines_to m (suc k) = lines_to m k ++ line_of m k
+
+unfoldable pub head_text : ℤ → Option Price → List ℕ
+head_text net avoided = codes "net " ++ (signed_decimal net ++ (10 ∷ (codes "avoided " ++ (price_text avoided ++ (10 ∷ [])))))
+
+-- the zone net, the avoided value, and the slots that are not idle
+unfoldable pub text_of : Meaning → List ℕ
+text_of m = head_text m.zone.kw m.avoided ++ lines_to m.slots 228

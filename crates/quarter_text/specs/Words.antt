@@ -1,0 +1,19 @@
+-- The lines of a text, and the words of a line.
+use Rattle.std.specs.Prelude.{ℕ, Bool, ◌||◌, List, length, ◌==◌, nat_lt}
+use Rattle.std.specs.List.{before_first, filter, slice_split}
+
+-- a space, a tab or a carriage return
+abbrev pub is_blank : ℕ → Bool
+is_blank b = b == 32 || b == 9 || b == 13
+
+-- byte 0A ends a line
+abbrev pub lines_of : List ℕ → List (List ℕ)
+lines_of text = slice_split (λ b. b == 10) text
+
+-- a comment begins at the first #
+abbrev pub uncommented : List ℕ → List ℕ
+uncommented line = before_first (λ b. b == 35) line
+
+-- words stand between blanks
+abbrev pub words_of : List ℕ → List (List ℕ)
+words_of line = filter (λ w. nat_lt 0 (length w)) (slice_split is_blank (uncommented line))

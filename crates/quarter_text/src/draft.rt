@@ -1,0 +1,86 @@
+// A quarter of which some lines are read.
+ghost use Rattle.std.specs.Prelude.{◌≡◌, ◌+◌, ◌-◌, ◌<◌, ◌≤◌, IfOk};
+ghost use Rattle.quarter_text.specs.Drafts.{blank, finished, left, name_slots, with_line};
+ghost use Rattle.quarter_text.specs.Lines.{words_in};
+
+use crate::fault::{Part, Problem, TextFault, WordFault};
+use crate::line::{Line, Range, at_word};
+use crate::quarter::Quarter;
+use source::slot::{SLOTS, Slot};
+use units::price::Price;
+use units::zone_net::ZoneNet;
+
+/// What the lines so far tell; a slot that none of them names is nothing yet.
+#[derive(Clone, Copy)]
+pub(crate) struct Draft {
+    zone_net: Option<ZoneNet>,
+    avoided: Option<Option<Price>>,
+    named: [Option<Slot>; SLOTS],
+}
+
+// The slots of a range are told so, unless one of them was named before.
+#[tactic(auto, using(crate::proofs::Named::named_twice))]
+fn name_slots(
+    named: &mut [Option<Slot>; SLOTS],
+    range: Range,
+    told: Slot,
+) -> Result<(), WordFault>
+    requires { (range.first ≤ range.last) × (range.last < 228) }
+    ensures { left result named.new ≡ name_slots named.old range.first (range.last + 1 - range.first) told }
+{
+    for slot in range.first..=range.last {
+        if named[slot].is_some() {
+            return at_word(0, Problem::NamedTwice { slot });
+        }
+        named[slot] = Some(told);
+    }
+    Ok(())
+}
+
+impl Draft {
+    /// Before the first line.
+    pub(crate) fn blank() -> Draft
+        ensures { result ≡ blank }
+    {
+        Draft {
+            zone_net: None,
+            avoided: None,
+            named: [None; SLOTS],
+        }
+    }
+
+    /// Takes one line more; an empty one says nothing.
+    pub(crate) fn take(&mut self, line: Line<'_>) -> Result<(), WordFault>
+        ensures { left result self.new ≡ with_line self.old (words_in line.entry) }
+    {
+        if line.words.is_empty() {
+            return Ok(());
+        }
+        match (self.zone_net, self.avoided) {
+            (None, _) => self.zone_net = Some(line.zone_net()?),
+            (Some(_), None) => self.avoided = Some(line.avoided()?),
+            (Some(_), Some(_)) => {
+                let range = line.range()?;
+                let told = line.told(range)?;
+                name_slots(&mut self.named, range, told)?;
+            }
+        }
+        Ok(())
+    }
+
+    /// The quarter, where the text has so many lines.
+    pub(crate) fn finished(self, lines: usize) -> Result<Quarter, TextFault>
+        ensures { result ≡ finished lines self.named self.zone_net self.avoided }
+    {
+        let expected = |part| TextFault {
+            line: lines,
+            word: 0,
+            problem: Problem::Expected(part),
+        };
+        Ok(Quarter {
+            zone_net: self.zone_net.ok_or(expected(Part::Net))?,
+            avoided: self.avoided.ok_or(expected(Part::Avoided))?,
+            named: self.named,
+        })
+    }
+}

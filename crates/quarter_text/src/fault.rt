@@ -1,0 +1,88 @@
+// Where a text goes wrong, and why.
+ghost use Rattle.std.specs.Prelude.{◌≡◌};
+ghost use Rattle.quarter_text.specs.Faults.{fault_in};
+ghost use Rattle.quarter_text.specs.declared.fault.ReadFault.TheVariants.{Text, Memory};
+
+use std::alloc::AllocError;
+use units::bounds::OutOfBounds;
+
+/// What a line should have had at a word.
+#[derive(Clone, Copy, PartialEq, Eq, Debug)]
+pub enum Part {
+    Net,
+    ZoneNet,
+    Avoided,
+    AvoidedValue,
+    Slots,
+    Demand,
+    UpPrice,
+    DownPrice,
+    End,
+}
+
+/// Why a word is refused.
+#[derive(Clone, Copy, PartialEq, Eq, Debug)]
+pub enum Problem {
+    /// It is not what the line should have there; or the line ends, or goes on.
+    Expected(Part),
+    /// The number is out of bounds.
+    Bounds(OutOfBounds),
+    /// There is no such slot.
+    NoSuchSlot,
+    /// The range ends before it begins.
+    BackwardRange,
+    /// A slot that a line before it names.
+    NamedTwice { slot: usize },
+    /// The energy over these slots is no whole number of kW.
+    NotWholeKw,
+}
+
+/// A word of a line, counted from 0, and why it is refused.
+#[derive(Clone, Copy, PartialEq, Eq, Debug)]
+pub struct WordFault {
+    pub word: usize,
+    pub problem: Problem,
+}
+
+/// A word of the text, by its line and its place in the line, both counted from 0, and why it is refused.
+#[derive(Clone, Copy, PartialEq, Eq, Debug)]
+pub struct TextFault {
+    pub line: usize,
+    pub word: usize,
+    pub problem: Problem,
+}
+
+impl WordFault {
+    pub(crate) fn in_line(self, line: usize) -> TextFault
+        ensures { result ≡ fault_in line self }
+    {
+        TextFault {
+            line,
+            word: self.word,
+            problem: self.problem,
+        }
+    }
+}
+
+/// Why a text is not read.
+#[derive(Clone, Copy, PartialEq, Eq, Debug)]
+pub enum ReadFault {
+    Text(TextFault),
+    Memory,
+}
+
+impl From<TextFault> for ReadFault {
+    ghost from_gives = { λ fault r. r ≡ Text fault };
+
+    fn from(fault: TextFault) -> ReadFault {
+        ReadFault::Text(fault)
+    }
+}
+
+impl From<AllocError> for ReadFault {
+    ghost from_gives = { λ _ r. r ≡ Memory };
+
+    fn from(_error: AllocError) -> ReadFault {
+        ReadFault::Memory
+    }
+}

@@ -1,0 +1,137 @@
+// A price source as plain text.
+ghost use Rattle.std.specs.Prelude.{◌≡◌, ◌<◌, ◌++◌, IfOk, OnOk, Some};
+ghost use Rattle.std.specs.String.{string_bytes};
+ghost use Rattle.quarter_text.specs.Texts.{ends_run, head_text, price_text, same_slot, shown_run, slots_text, text_of, told_text};
+
+use crate::line::Range;
+use source::price_source::PriceSource;
+use source::slot::{SLOTS, Slot};
+use source::table::Row;
+use std::alloc::{AllocError, Global};
+use std::fmt;
+use units::euros::Amount;
+use units::price::Price;
+use units::zone_net::ZoneNet;
+
+/// Euros, or a `-` where there is no price.
+#[derive(Clone, Copy)]
+struct Euros(Option<Price>);
+
+impl fmt::Display for Euros {
+    ghost output = { λ x. Some (price_text x.0) };
+
+    fn fmt<W: fmt::Write>(&self, f: &mut fmt::Formatter<W>) -> fmt::Result {
+        match self.0 {
+            Some(price) => write!(f, "{}", Amount::from(price)),
+            None => write!(f, "-"),
+        }
+    }
+}
+
+impl fmt::Display for Range {
+    ghost output = { λ x. Some (slots_text x.first x.last) };
+
+    fn fmt<W: fmt::Write>(&self, f: &mut fmt::Formatter<W>) -> fmt::Result {
+        let Range { first, last } = *self;
+        match first {
+            225 => write!(f, "scheduled"),
+            226 => write!(f, "up"),
+            227 => write!(f, "down"),
+            _ if first == last => write!(f, "{first}"),
+            _ => write!(f, "{first}-{last}"),
+        }
+    }
+}
+
+/// What is told of a slot.
+#[derive(Clone, Copy)]
+struct SlotText(Slot);
+
+impl fmt::Display for SlotText {
+    ghost output = { λ x. Some (told_text x.0) };
+
+    fn fmt<W: fmt::Write>(&self, f: &mut fmt::Formatter<W>) -> fmt::Result {
+        match self.0 {
+            Some(reading) => {
+                let kw = reading.demand.kw();
+                let up = Euros(reading.up);
+                let down = Euros(reading.down);
+                write!(f, "{kw} {up} {down}")
+            }
+            None => write!(f, "unreported"),
+        }
+    }
+}
+
+/// The lines before those of slots.
+#[derive(Clone, Copy)]
+struct Head {
+    zone_net: ZoneNet,
+    avoided: Option<Price>,
+}
+
+impl fmt::Display for Head {
+    ghost output = { λ x. Some (head_text x.zone_net.kw x.avoided) };
+
+    #[tactic(auto, unfolding(crate::specs::Texts::head_text))]
+    fn fmt<W: fmt::Write>(&self, f: &mut fmt::Formatter<W>) -> fmt::Result {
+        let net = self.zone_net.kw();
+        let avoided = Euros(self.avoided);
+        write!(f, "net {net}\navoided {avoided}\n")
+    }
+}
+
+fn same_slot(a: Slot, b: Slot) -> bool
+    ensures { result ≡ same_slot a b }
+{
+    match (a, b) {
+        (Some(a), Some(b)) => a.demand == b.demand && a.up == b.up && a.down == b.down,
+        (None, None) => true,
+        _ => false,
+    }
+}
+
+// What the source tells of a slot; no slot number here is refused.
+fn told<S: PriceSource>(source: &S, slot: usize) -> Slot
+    ensures { slot < 228 → result ≡ (S.PriceSource.means source.now).slots slot }
+{
+    source.slot(slot).ok().flatten()
+}
+
+// Whether the next slot has a line of its own.
+#[tactic(auto, unfolding(crate::specs::Texts::ends_run))]
+fn ends_run<S: PriceSource>(source: &S, last: usize) -> bool
+    requires { last < 228 }
+    ensures { result ≡ ends_run (S.PriceSource.means source.now).slots last }
+{
+    last >= 224 || !same_slot(told(source, last), told(source, last + 1))
+}
+
+// The line of slots of which the same is told; idle ones have none.
+fn put_run(text: &mut String, range: Range, slot: Slot) -> Result<(), AllocError>
+    ensures { OnOk result (string_bytes text.new ≡ string_bytes text.old ++ shown_run range.first range.last slot) }
+{
+    if same_slot(slot, Row::IDLE.slot()) {
+        return Ok(());
+    }
+    write!(text, "{range} {}\n", SlotText(slot))
+}
+
+/// The text of a source: its zone net, its avoided value, and the slots that are not idle.
+pub fn quarter_text<S: PriceSource>(heap: Global, source: &S) -> Result<String, AllocError>
+    ensures { IfOk result (λ t. string_bytes t ≡ text_of (S.PriceSource.means source.now)) }
+{
+    let head = Head {
+        zone_net: source.zone_net(),
+        avoided: source.avoided(),
+    };
+    let mut text = format!(in heap; "{head}")?;
+    let mut first = 0;
+    for last in 0..SLOTS {
+        if ends_run(source, last) {
+            put_run(&mut text, Range { first, last }, told(source, last))?;
+            first = last + 1;
+        }
+    }
+    Ok(text)
+}

@@ -1,0 +1,37 @@
+// A quarter that a text tells, as a price source.
+ghost use Rattle.std.specs.Prelude.{◌≡◌};
+
+use source::price_source::PriceSource;
+use source::slot::{NoSuchSlot, SLOTS, Slot};
+use source::table::Row;
+use units::price::Price;
+use units::zone_net::ZoneNet;
+
+/// The zone net, the avoided value, and each slot that the text names.
+#[derive(Clone, Copy)]
+pub struct Quarter {
+    pub(crate) zone_net: ZoneNet,
+    pub(crate) avoided: Option<Price>,
+    pub(crate) named: [Option<Slot>; SLOTS],
+}
+
+impl PriceSource for Quarter {
+    ghost use Rattle.quarter_text.specs.Quarters.{meaning_of};
+
+    ghost means = { meaning_of };
+
+    fn slot(&self, slot: usize) -> Result<Slot, NoSuchSlot> {
+        match self.named.get(slot) {
+            Some(named) => Ok(named.unwrap_or(Row::IDLE.slot())),
+            None => Err(NoSuchSlot { slot }),
+        }
+    }
+
+    fn zone_net(&self) -> ZoneNet {
+        self.zone_net
+    }
+
+    fn avoided(&self) -> Option<Price> {
+        self.avoided
+    }
+}
