@@ -42,9 +42,9 @@ no_digit w i n b l e t = at_drop_more (λ x. capped (digits_after n x)) w i 0 l 
 capped_sum : (n m u t : ℕ) → 1 ≤ u → 1 ≤ t → min (min 1_000_000_000_000 n * u + min 1_000_000_000_000 m * t) 1_000_000_000_000 ≡ min 1_000_000_000_000 (n * u + m * t)
 capped_sum n m u t lu lt = ⊎_elim
     (λ (s : n < 1_000_000_000_000). let e : min 1_000_000_000_000 n ≡ n = omega (arith, s) in rw e (⊎_elim
-        (λ (r : m < 1_000_000_000_000). let f : min 1_000_000_000_000 m ≡ m = omega (arith, r) in rw f (omega arith))
-        (λ (r : 1_000_000_000_000 ≤ m). let f : min 1_000_000_000_000 m ≡ 1_000_000_000_000 = omega (arith, r) in rw f (omega (arith, r, lt, le-mul_of_pos_right m lt)))
-        (cases_lt m 1_000_000_000_000)))
+    (λ (r : m < 1_000_000_000_000). let f : min 1_000_000_000_000 m ≡ m = omega (arith, r) in rw f (omega arith))
+    (λ (r : 1_000_000_000_000 ≤ m). let f : min 1_000_000_000_000 m ≡ 1_000_000_000_000 = omega (arith, r) in rw f (omega (arith, r, lt, le-mul_of_pos_right m lt)))
+    (cases_lt m 1_000_000_000_000)))
     (λ (s : 1_000_000_000_000 ≤ n). let e : min 1_000_000_000_000 n ≡ 1_000_000_000_000 = omega (arith, s) in rw e (omega (arith, s, lu, le-mul_of_pos_right n lu)))
     (cases_lt n 1_000_000_000_000)
 

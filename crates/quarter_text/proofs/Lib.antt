@@ -1,5 +1,5 @@
 pub mod Capped
 pub mod Cuts
-pub mod Lines
+pub mod LineSteps
 pub mod Named
 pub mod Printed

@@ -11,7 +11,7 @@ use Rattle.quarter_text.specs.Words.{lines_of, words_of}
 use Rattle.quarter_text.specs.declared.draft.Draft.{Draft}
 use Rattle.quarter_text.specs.declared.fault.Part.TheVariants as part
 use Rattle.quarter_text.specs.declared.fault.Problem.{Problem}
-use Rattle.quarter_text.specs.declared.fault.Problem.TheVariants.{Expected, NamedTwice}
+use Rattle.quarter_text.specs.declared.fault.Problem.TheVariants.{Missing, NamedTwice}
 use Rattle.quarter_text.specs.declared.fault.TextFault.{TextFault}
 use Rattle.quarter_text.specs.declared.fault.WordFault.{WordFault}
 use Rattle.quarter_text.specs.declared.line.Range.{Range}
@@ -65,8 +65,8 @@ with_lines n d [] = Ok d
 with_lines n d (l ∷ ls) = and_then (in_line n (with_line d (words_of l))) (λ e. with_lines (n + 1) e ls)
 
 abbrev pub finished : ℕ → List (Option Slot) → Option ZoneNet → Option (Option Price) → Result Quarter TextFault
-finished n named None v = in_line n (at_word 0 (Expected part.Net))
-finished n named (Some z) None = in_line n (at_word 0 (Expected part.Avoided))
+finished n named None v = in_line n (at_word 0 (Missing part.Net))
+finished n named (Some z) None = in_line n (at_word 0 (Missing part.Avoided))
 finished n named (Some z) (Some v) = Ok (record { zone_net = z; avoided = v; named = named })
 
 -- the quarter of a text, or the first fault; where the text ends too early, after its last line

@@ -131,9 +131,9 @@ energy_at ws k w = then (number_at 3 ws k part.Demand) (power k w)
 abbrev pub is_word : Words → ℕ → List ℕ → Bool
 is_word ws k w = found (slice_get ws k) w
   where
-  found : Option (List ℕ) → List ℕ → Bool
-  found (Some v) w = bytes_eq v w
-  found None w = false
+    found : Option (List ℕ) → List ℕ → Bool
+    found (Some v) w = bytes_eq v w
+    found None w = false
 
 -- a demand and the two prices from the word k on, to the line's end
 abbrev pub prices_after : Words → ℕ → Demand → Read Slot

@@ -1,5 +1,5 @@
 -- The lines of a text, and the words of a line.
-use Rattle.std.specs.Prelude.{ℕ, Bool, ◌||◌, List, length, ◌==◌, nat_lt}
+use Rattle.std.specs.Prelude.{ℕ, Bool, ◌||◌, List, length, Some, None, Option, ◌==◌, nat_lt, slice_get}
 use Rattle.std.specs.List.{before_first, filter, slice_split}
 
 -- a space, a tab or a carriage return
@@ -17,3 +17,11 @@ uncommented line = before_first (λ b. b == 35) line
 -- words stand between blanks
 abbrev pub words_of : List ℕ → List (List ℕ)
 words_of line = filter (λ w. nat_lt 0 (length w)) (slice_split is_blank (uncommented line))
+
+abbrev pub word_in : Option (List ℕ) → ℕ → Option (List ℕ)
+word_in None word = None
+word_in (Some line) word = slice_get (words_of line) word
+
+-- the word of a line, both counted from 0, if there is one
+abbrev pub word_of : List ℕ → ℕ → ℕ → Option (List ℕ)
+word_of text line word = word_in (slice_get (lines_of text) line) word

@@ -20,11 +20,7 @@ pub(crate) struct Draft {
 
 // The slots of a range are told so, unless one of them was named before.
 #[tactic(auto, using(crate::proofs::Named::named_twice))]
-fn name_slots(
-    named: &mut [Option<Slot>; SLOTS],
-    range: Range,
-    told: Slot,
-) -> Result<(), WordFault>
+fn name_slots(named: &mut [Option<Slot>; SLOTS], range: Range, told: Slot) -> Result<(), WordFault>
     requires { (range.first ≤ range.last) × (range.last < 228) }
     ensures { left result named.new ≡ name_slots named.old range.first (range.last + 1 - range.first) told }
 {
@@ -72,14 +68,14 @@ impl Draft {
     pub(crate) fn finished(self, lines: usize) -> Result<Quarter, TextFault>
         ensures { result ≡ finished lines self.named self.zone_net self.avoided }
     {
-        let expected = |part| TextFault {
+        let missing = |part| TextFault {
             line: lines,
             word: 0,
-            problem: Problem::Expected(part),
+            problem: Problem::Missing(part),
         };
         Ok(Quarter {
-            zone_net: self.zone_net.ok_or(expected(Part::Net))?,
-            avoided: self.avoided.ok_or(expected(Part::Avoided))?,
+            zone_net: self.zone_net.ok_or(missing(Part::Net))?,
+            avoided: self.avoided.ok_or(missing(Part::Avoided))?,
             named: self.named,
         })
     }

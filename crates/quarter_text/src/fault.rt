@@ -25,6 +25,8 @@ pub enum Part {
 pub enum Problem {
     /// It is not what the line should have there; or the line ends, or goes on.
     Expected(Part),
+    /// The text ends without it.
+    Missing(Part),
     /// The number is out of bounds.
     Bounds(OutOfBounds),
     /// There is no such slot.
@@ -44,7 +46,8 @@ pub struct WordFault {
     pub problem: Problem,
 }
 
-/// A word of the text, by its line and its place in the line, both counted from 0, and why it is refused.
+/// A word of the text, by its line and its place in the line, both counted from 0, and why it is refused. Where the
+/// text ends too early, the line is the one after its last.
 #[derive(Clone, Copy, PartialEq, Eq, Debug)]
 pub struct TextFault {
     pub line: usize,

@@ -1,10 +1,11 @@
 // A quarter as plain text: read from it, and written to it.
 #![tactic(auto)]
 
-pub mod fault;
 mod decimal;
 mod draft;
+pub mod fault;
 mod line;
+pub mod message;
 mod numeral;
 pub mod printing;
 pub mod quarter;

@@ -11,12 +11,7 @@ use crate::words::{lines_of, words_of};
 use std::alloc::Global;
 
 // Takes one line more of the text.
-fn take_line(
-    heap: Global,
-    draft: &mut Draft,
-    line: usize,
-    bytes: &[u8],
-) -> Result<(), ReadFault>
+fn take_line(heap: Global, draft: &mut Draft, line: usize, bytes: &[u8]) -> Result<(), ReadFault>
     ensures { TakenAs (in_line line (with_line draft.old (words_of bytes.now))) result draft.new }
 {
     let words = words_of(heap, bytes)?;

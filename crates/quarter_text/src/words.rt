@@ -1,5 +1,6 @@
 // The words of a line.
-ghost use Rattle.std.specs.Prelude.{◌≡◌, IfOk, map, vec_items};
+ghost use Rattle.std.specs.Prelude.{◌≡◌, IfOk, map, slice_get, vec_items};
+ghost use Rattle.std.specs.Option.{option_map};
 ghost use Rattle.quarter_text.specs.Words.{is_blank, lines_of, words_of};
 
 use crate::decimal::first_at;
@@ -27,4 +28,14 @@ pub(crate) fn words_of(heap: Global, line: &[u8]) -> Result<Vec<&[u8]>, AllocErr
         .split(|byte| is_blank(*byte))
         .filter(|word| !word.is_empty())
         .collect(heap)
+}
+
+/// The line or the word at a place, counted from 0, if there is one.
+pub(crate) fn nth<'a>(parts: &[&'a [u8]], place: usize) -> Option<&'a [u8]>
+    ensures { option_map (λ part. part.now) result ≡ slice_get (map (λ part. part.now) parts.now) place }
+{
+    match parts.get(place) {
+        Some(part) => Some(*part),
+        None => None,
+    }
 }

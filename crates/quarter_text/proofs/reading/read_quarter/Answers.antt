@@ -2,7 +2,7 @@ use Rattle.std.proofs.Common.{rules, ◌≡◌, ◌+◌, Err, sym, ap, ◌∙◌
 use Rattle.std.proofs.lemmas.Result.{err_from_is_err_and}
 use Rattle.quarter_text.specs.Drafts.{quarter_of}
 use Rattle.quarter_text.specs.Reading.{ReadAs}
-use Rattle.quarter_text.proofs.Lines.{line_read, line_refused, refused_as}
+use Rattle.quarter_text.proofs.LineSteps.{line_read, line_refused, refused_as}
 use Rattle.quarter_text.proofs.reading.read_quarter.Goals as goal
 
 pub returns-in_err-take_line : goal.returns-in_err-take_line

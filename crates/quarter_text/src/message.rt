@@ -1,0 +1,118 @@
+// What is said of a text that is refused.
+ghost use Rattle.std.specs.Prelude.{◌≡◌, IfOk};
+ghost use Rattle.std.specs.Option.{option_map};
+ghost use Rattle.quarter_text.specs.Words.{word_of};
+
+use crate::fault::{Part, Problem, TextFault};
+use crate::words::{lines_of, nth, words_of};
+use std::alloc::{AllocError, Global};
+use std::fmt;
+use units::bounds::OutOfBounds;
+
+/// The most bytes of a word that are shown.
+const SHOWN: usize = 40;
+
+impl fmt::Display for Part {
+    fn fmt<W: fmt::Write>(&self, f: &mut fmt::Formatter<W>) -> fmt::Result {
+        match self {
+            Part::Net => write!(f, "`net` and the zone net"),
+            Part::ZoneNet => write!(f, "the zone net in whole kW, from -100000000 to 100000000"),
+            Part::Avoided => write!(f, "`avoided` and the avoided value"),
+            Part::AvoidedValue => write!(
+                f,
+                "the avoided value in euros, from -99999.00 to 99999.00, or -"
+            ),
+            Part::Slots => write!(
+                f,
+                "a slot from 0 to 227, a range as 0-74, or scheduled, up or down"
+            ),
+            Part::Demand => write!(
+                f,
+                "the demand in whole kW, from -10000000 to 10000000, or in MWh, or unreported"
+            ),
+            Part::UpPrice => write!(f, "the up price in euros, from -99999.00 to 99999.00, or -"),
+            Part::DownPrice => write!(
+                f,
+                "the down price in euros, from -99999.00 to 99999.00, or -"
+            ),
+            Part::End => write!(f, "the end of the line"),
+        }
+    }
+}
+
+/// The bytes of a word, those that are no visible characters of ASCII by their numbers.
+#[derive(Clone, Copy)]
+struct Shown<'a>(&'a [u8]);
+
+impl fmt::Display for Shown<'_> {
+    fn fmt<W: fmt::Write>(&self, f: &mut fmt::Formatter<W>) -> fmt::Result {
+        for byte in self.0.iter().take(SHOWN) {
+            if byte.is_ascii_graphic() {
+                write!(f, "{}", char::from(*byte))?;
+            } else {
+                write!(f, "\\x{byte:02x}")?;
+            }
+        }
+        if self.0.len() > SHOWN {
+            write!(f, "..")?;
+        }
+        Ok(())
+    }
+}
+
+/// A fault of a text with the word at which it stands, as a line for people.
+#[derive(Clone, Copy)]
+pub struct Message<'a> {
+    pub fault: TextFault,
+    pub word: Option<&'a [u8]>,
+}
+
+impl fmt::Display for Message<'_> {
+    fn fmt<W: fmt::Write>(&self, f: &mut fmt::Formatter<W>) -> fmt::Result {
+        let line = self.fault.line.saturating_add(1);
+        if let Problem::Missing(part) = self.fault.problem {
+            return write!(
+                f,
+                "the text ends before line {line}, where {part} should be"
+            );
+        }
+        write!(f, "line {line}: ")?;
+        match self.word {
+            Some(word) => write!(f, "`{}`", Shown(word))?,
+            None => write!(f, "the end of the line")?,
+        }
+        match self.fault.problem {
+            Problem::Expected(part) | Problem::Missing(part) => {
+                write!(f, " stands where {part} should be")
+            }
+            Problem::Bounds(OutOfBounds::Demand) => write!(
+                f,
+                " is out of bounds: a demand is from -10000000 to 10000000 kW"
+            ),
+            Problem::Bounds(OutOfBounds::Price) => write!(
+                f,
+                " is out of bounds: a price is from -99999.00 to 99999.00 euros"
+            ),
+            Problem::Bounds(OutOfBounds::ZoneNet) => write!(
+                f,
+                " is out of bounds: a zone net is from -100000000 to 100000000 kW"
+            ),
+            Problem::NoSuchSlot => write!(f, " is out of bounds: slots are from 0 to 227"),
+            Problem::BackwardRange => write!(f, " ends before it begins"),
+            Problem::NamedTwice { slot } => write!(f, " names slot {slot} again"),
+            Problem::NotWholeKw => write!(f, " MWh over these slots is no whole number of kW"),
+        }
+    }
+}
+
+/// The word at which a fault stands; nothing where the line ends before it.
+pub fn word_of(heap: Global, text: &[u8], fault: TextFault) -> Result<Option<&[u8]>, AllocError>
+    ensures { IfOk result (λ o. option_map (λ w. w.now) o ≡ word_of text.now fault.line fault.word) }
+{
+    let lines = lines_of(heap, text)?;
+    let Some(line) = nth(lines.as_slice(), fault.line) else {
+        return Ok(None);
+    };
+    let words = words_of(heap, line)?;
+    Ok(nth(words.as_slice(), fault.word))
+}
