@@ -1,5 +1,11 @@
 pub mod Capped
 pub mod Cuts
+pub mod Digits
 pub mod LineSteps
+pub mod LineTrips
 pub mod Named
+pub mod Numbers
 pub mod Printed
+pub mod Runs
+pub mod TextTrips
+pub mod Tokens

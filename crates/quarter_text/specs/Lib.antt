@@ -5,4 +5,5 @@ pub mod Numerals
 pub mod Quarters
 pub mod Reading
 pub mod Texts
+pub mod Trips
 pub mod Words

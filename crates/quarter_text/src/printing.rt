@@ -2,6 +2,7 @@
 ghost use Rattle.std.specs.Prelude.{◌≡◌, ◌<◌, ◌++◌, IfOk, OnOk, Some};
 ghost use Rattle.std.specs.String.{string_bytes};
 ghost use Rattle.quarter_text.specs.Texts.{ends_run, head_text, price_text, same_slot, shown_run, slots_text, text_of, told_text};
+ghost use Rattle.quarter_text.specs.Trips.{ReadsBack, SameSheet};
 
 use crate::line::Range;
 use source::price_source::PriceSource;
@@ -118,8 +119,11 @@ fn put_run(text: &mut String, range: Range, slot: Slot) -> Result<(), AllocError
 }
 
 /// The text of a source: its zone net, its avoided value, and the slots that are not idle.
+#[tactic(auto, using(crate::proofs::TextTrips::same_sheet, crate::proofs::Printed::all_printed))]
 pub fn quarter_text<S: PriceSource>(heap: Global, source: &S) -> Result<String, AllocError>
-    ensures { IfOk result (λ t. string_bytes t ≡ text_of (S.PriceSource.means source.now)) }
+    ensures prints { IfOk result (λ t. string_bytes t ≡ text_of (S.PriceSource.means source.now)) }
+    ensures reads_back { ReadsBack (S.PriceSource.means source.now) }
+    ensures same_sheet { SameSheet (S.PriceSource.means source.now) }
 {
     let head = Head {
         zone_net: source.zone_net(),

@@ -1,7 +1,8 @@
 use Rattle.std.proofs.Common.{◌≡◌, ◌+◌, sym, refl, ap, ◌∙◌, arith}
 use Rattle.std.specs.String.{string_bytes}
 use Rattle.quarter_text.specs.Texts.{head_text}
-use Rattle.quarter_text.proofs.Printed.{all_printed, none_printed, run_goes_on, run_put}
+use Rattle.quarter_text.proofs.TextTrips.{reads_back}
+use Rattle.quarter_text.proofs.Printed.{none_printed, run_goes_on, run_put}
 use Rattle.quarter_text.proofs.printing.quarter_text.Goals as goal
 use Rattle.quarter_text.proofs.printing.quarter_text.Goals.{then-ends_run+in_ok-put_run, else-ends_run}
 
@@ -18,5 +19,11 @@ loop-last-preserved g c =
       | else-ends_run w ↦ let r = run_goes_on m.slots k c.loop-last.first (head_text m.zone.kw m.avoided) _ (sym c.ends_run.ensures ∙ w.if-ends_run.false) i.0 i.1 in (ap string_bytes w.text-is ∙ r.0, w.first-is ∙ r.1)
     ]
 
-pub returns : goal.returns
-returns g c = grind (arith, all_printed)
+pub returns-in_err-put_run-clause-reads_back : goal.returns-in_err-put_run-clause-reads_back
+returns-in_err-put_run-clause-reads_back g c = reads_back _
+
+pub returns-clause-reads_back : goal.returns-clause-reads_back
+returns-clause-reads_back g c = reads_back _
+
+pub returns-in_err-text-clause-reads_back : goal.returns-in_err-text-clause-reads_back
+returns-in_err-text-clause-reads_back g c = reads_back _

@@ -1,0 +1,212 @@
+-- A printed text is read back as the source that was printed.
+use Rattle.std.proofs.Common.{◌≡◌, ℕ, zero, suc, ◌+◌, ◌-◌, ◌<◌, ◌≤◌, Bool, true, false, not, cond, ◌&&◌, List, [], ◌∷◌, ◌++◌, length, replicate, get_or, Some, None, Ok, Err, Option, Result, sym, refl, ap, ◌∙◌, subst, append-nil, append_assoc, add-one, codes, ◌⊎◌, inl, inr, ⊎_elim, arith}
+use Rattle.std.proofs.lemmas.Bool.{cases_Bool, cases_eq, cases_lt, and_from}
+use Rattle.std.proofs.lemmas.List.{length-replicate}
+use Rattle.std.specs.Fmt.{signed_decimal}
+use Rattle.std.specs.List.{AllByRecursion}
+use Rattle.std.specs.Option.{unwrap_or}
+use Rattle.sheet.specs.Sheets.{first_fault, sheet_meaning}
+use Rattle.source.specs.Meanings.{Meaning}
+use Rattle.source.specs.Slots.{Slot}
+use Rattle.units.specs.declared.price.Price.{Price}
+use Rattle.units.specs.declared.zone_net.ZoneNet.{ZoneNet}
+use Rattle.writing.proofs.SheetTrips.{same_bytes}
+use Rattle.writing.specs.Bytes.{sheet_bytes}
+use Rattle.writing.specs.Trips.{Alike}
+use Rattle.quarter_text.specs.Drafts.{and_then, blank, finished, in_line, name_slots, quarter_of, with_line, with_lines, with_range, with_slots}
+use Rattle.quarter_text.specs.Lines.{slots_from, Words}
+use Rattle.quarter_text.specs.Quarters.{idle, meaning_of}
+use Rattle.quarter_text.specs.Texts.{ends_run, head_text, line_of, lines_to, price_text, run_start, run_text, same_slot, shown_run, slots_text, text_of, told_text}
+use Rattle.quarter_text.specs.Trips.{ReadsBack, SameSheet}
+use Rattle.quarter_text.specs.Words.{lines_of, words_of}
+use Rattle.quarter_text.specs.declared.draft.Draft.{Draft}
+use Rattle.quarter_text.specs.declared.quarter.Quarter.{Quarter}
+use Rattle.quarter_text.proofs.LineTrips.{OneLine, avoided_there, avoided_words, head_inline, net_there, net_words, slots_read, told_inline, told_split, told_there, told_words}
+use Rattle.quarter_text.proofs.Runs.{Named, in_run, named_run, one_line, slot_is, start_first, start_low, start_next, start_stays}
+use Rattle.quarter_text.proofs.Tokens.{inline, inline_joined, inline_word, line_first, word_first}
+
+-- READING ON
+
+-- whatever follows the text t, its lines lead from the draft d to the draft e
+abbrev Leads : List ℕ → Draft → Draft → Type 0
+Leads t d e = (n : ℕ) (u : List ℕ) → (k : ℕ) × (with_lines n d (lines_of (t ++ u)) ≡ with_lines k e (lines_of u))
+
+leads_on : (d : Draft) → Leads [] d d
+leads_on d n u = (n, refl)
+
+leads_both : (s t : List ℕ) (d e f : Draft) → Leads s d e → Leads t e f → Leads (s ++ t) d f
+leads_both s t d e f p q n u =
+    let a = p n (t ++ u) in
+    let b = q a.0 u in
+    (b.0, ap (λ x. with_lines n d (lines_of x)) (append_assoc s t u) ∙ a.1 ∙ b.1)
+
+leads_line : (l : List ℕ) (d e : Draft) → inline l ≡ true → with_line d (words_of l) ≡ Ok e → Leads (l ++ (10 ∷ [])) d e
+leads_line l d e p h n u =
+    (n + 1, ap (λ x. with_lines n d (lines_of x)) (append_assoc l (10 ∷ []) u) ∙ ap (with_lines n d) (line_first l u p) ∙ rw h refl)
+
+-- THE HEAD
+
+abbrev netted : ZoneNet → Draft
+netted z = record { zone_net = Some z; avoided = None; named = replicate 228 None }
+
+abbrev headed : ZoneNet → Option Price → Draft
+headed z v = record { zone_net = Some z; avoided = Some v; named = replicate 228 None }
+
+head_leads : (z : ZoneNet) (v : Option Price) → Leads (head_text z.kw v) blank (headed z v)
+unfolding head_text
+head_leads z v =
+    let net = leads_line (codes "net " ++ signed_decimal z.kw) blank (netted z) (head_inline z v).0 (rw (net_words z, net_there z) refl) in
+    let value = leads_line (codes "avoided " ++ price_text v) (netted z) (headed z v) (head_inline z v).1 (rw (avoided_words v, avoided_there v) refl) in
+    let whole : ((codes "net " ++ signed_decimal z.kw) ++ (10 ∷ [])) ++ ((codes "avoided " ++ price_text v) ++ (10 ∷ [])) ≡ codes "net " ++ (signed_decimal z.kw ++ (10 ∷ (codes "avoided " ++ (price_text v ++ (10 ∷ []))))) =
+        append_assoc (codes "net " ++ signed_decimal z.kw) (10 ∷ []) ((codes "avoided " ++ price_text v) ++ (10 ∷ []))
+        ∙ append_assoc (codes "net ") (signed_decimal z.kw) (10 ∷ ((codes "avoided " ++ price_text v) ++ (10 ∷ [])))
+        ∙ ap (λ t. codes "net " ++ (signed_decimal z.kw ++ (10 ∷ t))) (append_assoc (codes "avoided ") (price_text v) (10 ∷ [])) in
+    subst (λ t. Leads t blank (headed z v)) whole (leads_both ((codes "net " ++ signed_decimal z.kw) ++ (10 ∷ [])) ((codes "avoided " ++ price_text v) ++ (10 ∷ [])) blank (netted z) (headed z v) net value)
+
+-- THE SLOTS
+
+all_same : (n i : ℕ) (x : Option Slot) → get_or (replicate n x) i x ≡ x
+all_same zero i x = refl
+all_same (suc n) zero x = refl
+all_same (suc n) (suc i) x = all_same n i x
+
+-- what is named of a slot: nothing, where it is idle
+abbrev told_of : Slot → Option Slot
+told_of s = cond (same_slot s idle) None (Some s)
+
+-- the first j slots are named
+record Marked (m : ℕ → Slot) (j : ℕ) (l : List (Option Slot)) : Type 0 where
+  long : length l ≡ 228
+  before : (i : ℕ) → i < j → get_or l i None ≡ told_of (m i)
+  after : (i : ℕ) → j ≤ i → get_or l i None ≡ None
+
+-- the line of a run names its slots
+run_leads : (z : ZoneNet) (v : Option Price) (a b : ℕ) (s : Slot) (l : List (Option Slot)) → OneLine a b → (k : Named l a (b + 1 - a) s) → Leads (run_text a b s) (with_slots (headed z v) l) (with_slots (headed z v) k.named)
+run_leads z v a b s l o k =
+    let r = slots_read a b o in
+    let words : words_of (slots_text a b ++ (32 ∷ told_text s)) ≡ slots_text a b ∷ told_words s = word_first (slots_text a b) (told_text s) r.word ∙ ap (λ w. slots_text a b ∷ w) (told_split s) in
+    let line = leads_line (slots_text a b ++ (32 ∷ told_text s)) (with_slots (headed z v) l) (with_slots (headed z v) k.named)
+        (inline_joined (slots_text a b) (32 ∷ told_text s) (inline_word (slots_text a b) r.word.bytes) (and_from true (inline (told_text s)) refl (told_inline s)))
+        (rw (words, r.range (told_words s), told_there (slots_text a b) s (slots_from a b), k.is) refl) in
+    subst (λ t. Leads t (with_slots (headed z v) l) (with_slots (headed z v) k.named)) (append_assoc (slots_text a b) (32 ∷ told_text s) (10 ∷ [])) line
+
+-- after the first k slots
+record Stood (m : ℕ → Slot) (z : ZoneNet) (v : Option Price) (k : ℕ) : Type 0 where
+  named : List (Option Slot)
+  marked : Marked m (run_start m k) named
+  leads : Leads (lines_to m k) (headed z v) (with_slots (headed z v) named)
+
+module _ (m : ℕ → Slot) (z : ZoneNet) (v : Option Price) where
+  stood_first : Stood m z v 0
+  unfolding lines_to
+  stood_first = record {
+    named = replicate 228 None;
+    marked = record {
+      long = refl;
+      before = λ i l. absurd (omega (arith, l, start_first m));
+      after = λ i l. all_same 228 i None;
+    };
+    leads = leads_on (headed z v);
+  }
+
+  -- the run goes on
+  stood_on : (k : ℕ) → ends_run m k ≡ false → Stood m z v k → Stood m z v (suc k)
+  unfolding lines_to
+  stood_on k e s = record {
+    named = s.named;
+    marked = subst (λ j. Marked m j s.named) (sym (start_stays m k e)) s.marked;
+    leads = rw e (subst (λ t. Leads t (headed z v) (with_slots (headed z v) s.named)) (sym (append-nil (lines_to m k))) s.leads);
+  }
+
+  -- an idle run ends
+  stood_idle : (k : ℕ) → ends_run m k ≡ true → same_slot (m k) idle ≡ true → Stood m z v k → Stood m z v (suc k)
+  unfolding lines_to
+  stood_idle k e t s = record {
+    named = s.named;
+    marked = subst (λ j. Marked m j s.named) (sym (start_next m k e)) (record {
+      long = s.marked.long;
+      before = λ i l. ⊎_elim
+          (λ (x : i < run_start m k). s.marked.before i x)
+          (λ (x : run_start m k ≤ i). s.marked.after i x ∙ sym (ap told_of (in_run m k i x (omega (arith, l))) ∙ rw t refl))
+          (cases_lt i (run_start m k));
+      after = λ i l. s.marked.after i (omega (arith, l, start_low m k));
+    });
+    leads = rw (e, t) (subst (λ w. Leads w (headed z v) (with_slots (headed z v) s.named)) (sym (append-nil (lines_to m k))) s.leads);
+  }
+
+  -- a run ends that has a line
+  stood_named : (k : ℕ) → k < 228 → ends_run m k ≡ true → same_slot (m k) idle ≡ false → Stood m z v k → Stood m z v (suc k)
+  unfolding lines_to
+  stood_named k b e t s =
+      let a : ℕ = run_start m k in
+      let low = start_low m k in
+      let n = named_run s.named a (k + 1 - a) (m k) (omega (arith, b, low, s.marked.long)) (λ i x y. s.marked.after i x) in
+      record {
+        named = n.named;
+        marked = subst (λ j. Marked m j n.named) (sym (start_next m k e)) (record {
+          long = n.long ∙ s.marked.long;
+          before = λ i l. ⊎_elim
+              (λ (x : i < a). n.outside i (inl x) ∙ s.marked.before i x)
+              (λ (x : a ≤ i). n.inside i x (omega (arith, l, low)) ∙ sym (ap told_of (in_run m k i x (omega (arith, l))) ∙ rw t refl))
+              (cases_lt i a);
+          after = λ i l. n.outside i (inr (omega (arith, l, low))) ∙ s.marked.after i (omega (arith, l, low));
+        });
+        leads = rw (e, t) (leads_both (lines_to m k) (run_text a k (m k)) (headed z v) (with_slots (headed z v) s.named) (with_slots (headed z v) n.named) s.leads (run_leads z v a k (m k) s.named (one_line m k b) n));
+      }
+
+  stood_next : (k : ℕ) → k < 228 → Stood m z v k → Stood m z v (suc k)
+  stood_next k b s = ⊎_elim
+      (λ (e : ends_run m k ≡ true). ⊎_elim
+          (λ (t : same_slot (m k) idle ≡ true). stood_idle k e t s)
+          (λ (t : same_slot (m k) idle ≡ false). stood_named k b e t s)
+          (cases_Bool (same_slot (m k) idle)))
+      (λ (e : ends_run m k ≡ false). stood_on k e s)
+      (cases_Bool (ends_run m k))
+
+  stood : (k : ℕ) → k ≤ 228 → Stood m z v k
+  stood zero b = stood_first
+  stood (suc k) b = stood_next k (omega (arith, b)) (stood k (omega (arith, b)))
+
+-- THE WHOLE TEXT
+
+last_ends : (m : ℕ → Slot) → run_start m 228 ≡ 228
+unfolding run_start ends_run
+last_ends m = refl
+
+told_again : (s : Slot) → unwrap_or (told_of s) idle ≡ s
+told_again s = ⊎_elim
+    (λ (t : same_slot s idle ≡ true). rw t (sym (slot_is s idle t)))
+    (λ (t : same_slot s idle ≡ false). rw t refl)
+    (cases_Bool (same_slot s idle))
+
+pub reads_back : (m : Meaning) → ReadsBack m
+unfolding text_of
+reads_back m =
+    let s = stood m.slots m.zone m.avoided 228 (omega arith) in
+    let q : Quarter = record { zone_net = m.zone; avoided = m.avoided; named = s.named } in
+    let leads = leads_both (head_text m.zone.kw m.avoided) (lines_to m.slots 228) blank (headed m.zone m.avoided) (with_slots (headed m.zone m.avoided) s.named) (head_leads m.zone m.avoided) s.leads in
+    let text : List ℕ = head_text m.zone.kw m.avoided ++ lines_to m.slots 228 in
+    let read : with_lines 0 blank (lines_of text) ≡ Ok (with_slots (headed m.zone m.avoided) s.named) = ap (λ t. with_lines 0 blank (lines_of t)) (sym (append-nil text)) ∙ (leads 0 []).1 in
+    record {
+      quarter = q;
+      read = ap (λ r. and_then r (λ d. finished (length (lines_of text)) d.named d.zone_net d.avoided)) read;
+      alike = record {
+        slots = λ k l. ap (λ o. unwrap_or o idle) (s.marked.before k (omega (arith, l, last_ends m.slots))) ∙ told_again (m.slots k);
+        zones = refl;
+        values = refl;
+      };
+    }
+
+ok_same : {p q : Quarter} {F : Type 0} → ◌≡◌ {A = Result Quarter F} (Ok p) (Ok q) → p ≡ q
+ok_same e = cc
+
+pub same_sheet : (m : Meaning) → SameSheet m
+same_sheet m b bytes sound alike q e =
+    let r = reads_back m in
+    let same : r.quarter ≡ q = ok_same (sym r.read ∙ e) in
+    let a : Alike (sheet_meaning b) (meaning_of r.quarter) = record {
+      slots = λ k l. alike.slots k l ∙ sym (r.alike.slots k l);
+      zones = alike.zones ∙ sym r.alike.zones;
+      values = alike.values ∙ sym r.alike.values;
+    } in
+    subst (λ x. sheet_bytes (meaning_of x) ≡ b) same (same_bytes (meaning_of r.quarter) b bytes sound a)
