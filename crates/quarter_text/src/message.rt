@@ -16,11 +16,11 @@ impl fmt::Display for Part {
     fn fmt<W: fmt::Write>(&self, f: &mut fmt::Formatter<W>) -> fmt::Result {
         match self {
             Part::Net => write!(f, "`net` and the zone net"),
-            Part::ZoneNet => write!(f, "the zone net in whole kW, from -100000000 to 100000000"),
+            Part::ZoneNet => write!(f, "the zone net in whole kW"),
             Part::Avoided => write!(f, "`avoided` and the avoided value"),
             Part::AvoidedValue => write!(
                 f,
-                "the avoided value in euros, from -99999.00 to 99999.00, or -"
+                "the avoided value in euros, with two decimals at most, or -"
             ),
             Part::Slots => write!(
                 f,
@@ -28,12 +28,12 @@ impl fmt::Display for Part {
             ),
             Part::Demand => write!(
                 f,
-                "the demand in whole kW, from -10000000 to 10000000, or in MWh, or unreported"
+                "the demand in whole kW, the energy as 12.5 MWh, or unreported"
             ),
-            Part::UpPrice => write!(f, "the up price in euros, from -99999.00 to 99999.00, or -"),
+            Part::UpPrice => write!(f, "the up price in euros, with two decimals at most, or -"),
             Part::DownPrice => write!(
                 f,
-                "the down price in euros, from -99999.00 to 99999.00, or -"
+                "the down price in euros, with two decimals at most, or -"
             ),
             Part::End => write!(f, "the end of the line"),
         }
@@ -71,23 +71,20 @@ impl fmt::Display for Message<'_> {
     fn fmt<W: fmt::Write>(&self, f: &mut fmt::Formatter<W>) -> fmt::Result {
         let line = self.fault.line.saturating_add(1);
         if let Problem::Missing(part) = self.fault.problem {
-            return write!(
-                f,
-                "the text ends before line {line}, where {part} should be"
-            );
+            return write!(f, "the text ends without {part}");
         }
-        write!(f, "line {line}: ")?;
         match self.word {
-            Some(word) => write!(f, "`{}`", Shown(word))?,
-            None => write!(f, "the end of the line")?,
+            Some(word) => write!(f, "line {line}: `{}`", Shown(word))?,
+            None => write!(f, "line {line}: its end")?,
         }
         match self.fault.problem {
+            Problem::Expected(Part::End) => write!(f, " is a word too many"),
             Problem::Expected(part) | Problem::Missing(part) => {
-                write!(f, " stands where {part} should be")
+                write!(f, " stands in place of {part}")
             }
             Problem::Bounds(OutOfBounds::Demand) => write!(
                 f,
-                " is out of bounds: a demand is from -10000000 to 10000000 kW"
+                " is out of bounds: a slot's demand is from -10000000 to 10000000 kW"
             ),
             Problem::Bounds(OutOfBounds::Price) => write!(
                 f,
