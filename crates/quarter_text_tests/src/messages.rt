@@ -1,0 +1,136 @@
+// What is said of texts that are refused: one for each problem, and for each part that a line should have.
+use crate::texts::{printed, with_head};
+use std::test::Fail;
+
+#[test]
+fn of_head_lines(rt: HostRuntime) -> Result<(), Fail> {
+    let cases = [
+        ("", "the text ends without `net` and the zone net"),
+        (
+            "net 5\n",
+            "the text ends without `avoided` and the avoided value",
+        ),
+        (
+            "\navoided 5",
+            "line 2: `avoided` stands in place of `net` and the zone net",
+        ),
+        (
+            "net",
+            "line 1: its end stands in place of the zone net in whole kW",
+        ),
+        (
+            "net 1.5",
+            "line 1: `1.5` stands in place of the zone net in whole kW",
+        ),
+        (
+            "net 5\nup 0",
+            "line 2: `up` stands in place of `avoided` and the avoided value",
+        ),
+        (
+            "net 5\navoided 1.000",
+            "line 2: `1.000` stands in place of the avoided value in euros, with two decimals at most, or -",
+        ),
+        ("net 5 kW", "line 1: `kW` is a word too many"),
+        (
+            "net 100000001",
+            "line 1: `100000001` is out of bounds: a zone net is from -100000000 to 100000000 kW",
+        ),
+    ];
+    for (text, message) in cases {
+        assert_eq!(rt; printed(rt.alloc(), text.as_bytes())?.as_str(), message);
+    }
+    Ok(())
+}
+
+#[test]
+fn of_expected_words(rt: HostRuntime) -> Result<(), Fail> {
+    let cases = [
+        (
+            "sched 5 - -",
+            "`sched` stands in place of a slot from 0 to 227, a range as 0-74, or scheduled, up or down",
+        ),
+        (
+            "7 5.5 - -",
+            "`5.5` stands in place of the demand in whole kW, the energy as 12.5 MWh, or unreported",
+        ),
+        (
+            "7 5 MW -",
+            "`MW` stands in place of the up price in euros, with two decimals at most, or -",
+        ),
+        (
+            "7 5 -",
+            "its end stands in place of the down price in euros, with two decimals at most, or -",
+        ),
+        ("7 5 - - -", "`-` is a word too many"),
+    ];
+    for (line, message) in cases {
+        let text = with_head(rt.alloc(), line)?;
+        let said = printed(rt.alloc(), text.as_bytes())?;
+        assert_eq!(rt;
+            said.as_str(),
+            format!(in rt.alloc(); "line 3: {message}")?.as_str()
+        );
+    }
+    Ok(())
+}
+
+#[test]
+fn of_other_problems(rt: HostRuntime) -> Result<(), Fail> {
+    let cases = [
+        (
+            "0-74 10000001 - -",
+            "`10000001` is out of bounds: a slot's demand is from -10000000 to 10000000 kW",
+        ),
+        (
+            "down 5 - -99999.01",
+            "`-99999.01` is out of bounds: a price is from -99999.00 to 99999.00 euros",
+        ),
+        (
+            "0-228 5 - -",
+            "`0-228` is out of bounds: slots are from 0 to 227",
+        ),
+        ("74-0 5 - -", "`74-0` ends before it begins"),
+        ("up 0 - -\n226 0 - -", "`226` names slot 226 again"),
+        (
+            "0-6 0.001 MWh - -",
+            "`0.001` MWh over these slots is no whole number of kW",
+        ),
+    ];
+    for (lines, message) in cases {
+        let text = with_head(rt.alloc(), lines)?;
+        let said = printed(rt.alloc(), text.as_bytes())?;
+        assert!(rt; said.ends_with(message), "{said}");
+    }
+    Ok(())
+}
+
+// Bytes that are no visible characters of ASCII are shown by number, and no more than 40 of them.
+#[test]
+fn of_odd_words(rt: HostRuntime) -> Result<(), Fail> {
+    let cases = [
+        (
+            b"n\xc3\xa4t 5".as_slice(),
+            "line 1: `n\\xc3\\xa4t` stands in place of `net` and the zone net",
+        ),
+        (
+            b"net \xff".as_slice(),
+            "line 1: `\\xff` stands in place of the zone net in whole kW",
+        ),
+        (
+            b"\0".as_slice(),
+            "line 1: `\\x00` stands in place of `net` and the zone net",
+        ),
+        (
+            b"net 5 \xe2\x80\xa8".as_slice(),
+            "line 1: `\\xe2\\x80\\xa8` is a word too many",
+        ),
+        (
+            b"net 1234567890123456789012345678901234567890.".as_slice(),
+            "line 1: `1234567890123456789012345678901234567890..` stands in place of the zone net in whole kW",
+        ),
+    ];
+    for (text, message) in cases {
+        assert_eq!(rt; printed(rt.alloc(), text)?.as_str(), message);
+    }
+    Ok(())
+}

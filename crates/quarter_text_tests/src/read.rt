@@ -1,0 +1,55 @@
+// What is read of a text.
+use crate::texts::{printed, sheet_of, stretched, with_head};
+use quarter_text::reading::read_quarter;
+use source::price_source::PriceSource;
+use std::test::Fail;
+
+#[test]
+fn energy(rt: HostRuntime) -> Result<(), Fail> {
+    let cases = [
+        ("0-224 20 MWh - -", 224, 80_000),
+        ("0-74 0.5 MWh - -", 0, 6_000),
+        ("down -15 MWh - -", 227, -60_000),
+        ("scheduled 50.000 MWh - -", 225, 200_000),
+        ("0-227 12.8 MWh - -", 227, 12_800),
+        ("0-224 0.001 MWh - -", 100, 4),
+        ("9 0.001 MWh - -", 9, 900),
+        ("0-6 0.007 MWh - -", 6, 900),
+        ("9 -0 MWh - -", 9, 0),
+    ];
+    for (line, slot, kw) in cases {
+        let text = with_head(rt.alloc(), line)?;
+        let quarter = read_quarter(rt.alloc(), text.as_bytes())?;
+        let demand = quarter.slot(slot)?.map(|reading| reading.demand.kw());
+        assert_eq!(rt; demand, Some(kw), "{line}");
+    }
+    Ok(())
+}
+
+// The same quarter in other layouts.
+#[test]
+fn layouts(rt: HostRuntime) -> Result<(), Fail> {
+    let plain = sheet_of(rt.alloc(), b"net -5\navoided 0.50\n0-9 5 1.20 -\n")?;
+    let cases = [
+        b"net -5\navoided 0.50\n0-9 5 1.20 -".as_slice(),
+        b"\n\n# A comment\nnet -5 # kW\n\navoided 0.50#\n\t\n0-9 5 1.20 -\n\n#".as_slice(),
+        b"net -5\r\navoided 0.50\r\n0-9 5 1.20 -\r\n".as_slice(),
+        b"\tnet\t-5\t\navoided  0.50 \n \r0-9 \t 5\r1.20  -".as_slice(),
+        b"net -0005\navoided 0.5\n000-009 0005 00001.2 -".as_slice(),
+        b"net -5\navoided 000.50\n5-9 5 1.2 -\n4 5 1.2 -\n0-3 5 1.2 -".as_slice(),
+        b"net -5 #\xff\xfe \0\navoided 0.50\n0-9 5 1.20 - # \xc3\xa4\n".as_slice(),
+    ];
+    for text in cases {
+        let sheet = sheet_of(rt.alloc(), text)?;
+        assert!(rt; sheet == plain, "{text:?}");
+    }
+    Ok(())
+}
+
+#[test]
+fn long_comment(rt: HostRuntime) -> Result<(), Fail> {
+    let text = stretched(rt.alloc(), "net 5 #", "# \0ä", b"\xff\navoided 1")?;
+    let again = printed(rt.alloc(), text.as_slice())?;
+    assert_eq!(rt; again.as_str(), "net 5\navoided 1.00\n");
+    Ok(())
+}

@@ -1,0 +1,215 @@
+// Where texts are refused, and why.
+use crate::texts::{fault_in, fault_of, stretched};
+use quarter_text::fault::Part::{self, Avoided, AvoidedValue, DownPrice, End, Net, Slots, UpPrice};
+use quarter_text::fault::Problem::{
+    BackwardRange, Bounds, Expected, Missing, NamedTwice, NoSuchSlot, NotWholeKw,
+};
+use std::test::Fail;
+use units::bounds::OutOfBounds::{Demand, Price, ZoneNet};
+
+#[test]
+fn head_lines(rt: HostRuntime) {
+    let cases = [
+        ("", 1, 0, Missing(Net)),
+        ("# only a comment", 1, 0, Missing(Net)),
+        ("\n \n", 3, 0, Missing(Net)),
+        ("net 5", 1, 0, Missing(Avoided)),
+        ("avoided -\nnet 5", 0, 0, Expected(Net)),
+        ("0-224 5 - -", 0, 0, Expected(Net)),
+        ("Net 5", 0, 0, Expected(Net)),
+        ("net\n5", 0, 1, Expected(Part::ZoneNet)),
+        ("net -", 0, 1, Expected(Part::ZoneNet)),
+        ("net 5 avoided -", 0, 2, Expected(End)),
+        ("net 5\nnet 5", 1, 0, Expected(Avoided)),
+        ("net 5\n\n0-224 5 - -", 2, 0, Expected(Avoided)),
+        ("net 5\navoided", 1, 1, Expected(AvoidedValue)),
+        ("net 5\navoided - -", 1, 2, Expected(End)),
+        ("net 5\navoided -\navoided -", 2, 0, Expected(Slots)),
+        ("net 5\navoided -\nnet 5", 2, 0, Expected(Slots)),
+    ];
+    for (text, line, word, problem) in cases {
+        assert_eq!(rt;
+            fault_of(rt.alloc(), text.as_bytes()),
+            Some((line, word, problem)),
+            "{text}"
+        );
+    }
+}
+
+#[test]
+fn number_of_words(rt: HostRuntime) -> Result<(), Fail> {
+    let cases = [
+        ("7", 1, Part::Demand),
+        ("7 5", 2, UpPrice),
+        ("7 5 -", 3, DownPrice),
+        ("7 5 - - -", 4, End),
+        ("7 unreported -", 2, End),
+        ("7 unreported MWh", 2, End),
+        ("7 MWh - -", 1, Part::Demand),
+        ("7 5 MWh", 3, UpPrice),
+        ("7 5 MWh -", 4, DownPrice),
+        ("7 5 MWh - - -", 5, End),
+        ("7 5 MWh MWh -", 3, UpPrice),
+        ("0 - 74 5 - -", 1, Part::Demand),
+    ];
+    for (line, word, part) in cases {
+        let fault = fault_in(rt.alloc(), line)?;
+        assert_eq!(rt; fault, Some((2, word, Expected(part))), "{line}");
+    }
+    Ok(())
+}
+
+#[test]
+fn no_numerals(rt: HostRuntime) -> Result<(), Fail> {
+    let words = [
+        "12.", ".5", ".", "--5", "+5", "1e3", "0x10", "-.5", "5-", "1,5", "1.2.3", "- 5",
+    ];
+    for word in words {
+        let net = format!(in rt.alloc(); "net {word}")?;
+        let net = fault_of(rt.alloc(), net.as_bytes());
+        let demand = fault_in(rt.alloc(), format!(in rt.alloc(); "7 {word} - -")?.as_str())?;
+        let energy = fault_in(
+            rt.alloc(),
+            format!(in rt.alloc(); "7 {word} MWh - -")?.as_str(),
+        )?;
+        assert_eq!(rt; net, Some((0, 1, Expected(Part::ZoneNet))), "{word}");
+        assert_eq!(rt; demand, Some((2, 1, Expected(Part::Demand))), "{word}");
+        assert_eq!(rt; energy, Some((2, 1, Expected(Part::Demand))), "{word}");
+    }
+    Ok(())
+}
+
+// Three decimals of a price, any of kW, four of MWh.
+#[test]
+fn decimals(rt: HostRuntime) -> Result<(), Fail> {
+    let cases = [
+        ("7 5 1.000 -", 2, UpPrice),
+        ("7 5 - 12.", 3, DownPrice),
+        ("7 5 -- -", 2, UpPrice),
+        ("7 5 - +5", 3, DownPrice),
+        ("7 5.0 - -", 1, Part::Demand),
+        ("7 - - -", 1, Part::Demand),
+        ("7 0.5000 MWh - -", 1, Part::Demand),
+    ];
+    for (line, word, part) in cases {
+        let fault = fault_in(rt.alloc(), line)?;
+        assert_eq!(rt; fault, Some((2, word, Expected(part))), "{line}");
+    }
+    Ok(())
+}
+
+#[test]
+fn slot_words(rt: HostRuntime) -> Result<(), Fail> {
+    let cases = [
+        ("228", NoSuchSlot),
+        ("227-228", NoSuchSlot),
+        ("228-0", NoSuchSlot),
+        ("123456789012345678901234567890", NoSuchSlot),
+        ("5-3", BackwardRange),
+        ("3-", Expected(Slots)),
+        ("-3", Expected(Slots)),
+        ("-", Expected(Slots)),
+        ("3-5-7", Expected(Slots)),
+        ("3--5", Expected(Slots)),
+        ("3-up", Expected(Slots)),
+        ("scheduled-227", Expected(Slots)),
+        ("Up", Expected(Slots)),
+        ("1.0", Expected(Slots)),
+        ("+1", Expected(Slots)),
+    ];
+    for (word, problem) in cases {
+        let fault = fault_in(rt.alloc(), format!(in rt.alloc(); "{word} 5 - -")?.as_str())?;
+        assert_eq!(rt; fault, Some((2, 0, problem)), "{word}");
+    }
+    Ok(())
+}
+
+// The first slot that is named again, whatever is told of it.
+#[test]
+fn slots_named_twice(rt: HostRuntime) -> Result<(), Fail> {
+    let cases = [
+        ("7 5 - -\n7 5 - -", 3, 7),
+        ("0 0 - -\n0 unreported", 3, 0),
+        ("0-74 5 - -\n\n70-80 5 - -", 4, 70),
+        ("70-80 5 - -\n0-74 5 - -", 3, 70),
+        ("0-227 unreported\n5 5 - -", 3, 5),
+        ("scheduled 5 - -\n225 5 - -", 3, 225),
+        ("225 5 - -\nscheduled 5 - -", 3, 225),
+        ("up 5 - -\ndown 5 - -\n224-227 5 - -", 4, 226),
+    ];
+    for (lines, line, slot) in cases {
+        let fault = fault_in(rt.alloc(), lines)?;
+        assert_eq!(rt; fault, Some((line, 0, NamedTwice { slot })), "{lines}");
+    }
+    Ok(())
+}
+
+// Each bound is read, and one more is beyond it; so is energy that is also no whole number of kW.
+#[test]
+fn bounds(rt: HostRuntime) -> Result<(), Fail> {
+    let cases = [
+        ("7 10000000 - -", "7 10000001 - -", 1, Demand),
+        ("7 -10000000 - -", "7 -10000001 - -", 1, Demand),
+        ("down 2500 MWh - -", "down 2500.001 MWh - -", 1, Demand),
+        ("0-6 -77.777 MWh - -", "0-6 -77.778 MWh - -", 1, Demand),
+        ("7 5 99999 -", "7 5 99999.01 -", 2, Price),
+        ("7 5 - -99999.00", "7 5 - -99999.01", 3, Price),
+    ];
+    for (within, beyond, word, bound) in cases {
+        assert_eq!(rt; fault_in(rt.alloc(), within)?, None, "{within}");
+        let fault = fault_in(rt.alloc(), beyond)?;
+        assert_eq!(rt; fault, Some((2, word, Bounds(bound))), "{beyond}");
+    }
+    Ok(())
+}
+
+#[test]
+fn bounds_of_either_sign(rt: HostRuntime) -> Result<(), Fail> {
+    for sign in ["", "-"] {
+        let widest = format!(in rt.alloc(); "net {sign}100000000\navoided {sign}99999")?;
+        assert_eq!(rt; fault_of(rt.alloc(), widest.as_bytes()), None);
+        let beyond = format!(in rt.alloc(); "net {sign}100000001")?;
+        let fault = fault_of(rt.alloc(), beyond.as_bytes());
+        assert_eq!(rt; fault, Some((0, 1, Bounds(ZoneNet))));
+        let long = "123456789012345678901234567890";
+        let longer = format!(in rt.alloc(); "7 5 - {sign}{long}.5")?;
+        let fault = fault_in(rt.alloc(), longer.as_str())?;
+        assert_eq!(rt; fault, Some((2, 3, Bounds(Price))));
+        let energy = format!(in rt.alloc(); "0-227 {sign}{long}.999 MWh - -")?;
+        let fault = fault_in(rt.alloc(), energy.as_str())?;
+        assert_eq!(rt; fault, Some((2, 1, Bounds(Demand))));
+    }
+    Ok(())
+}
+
+#[test]
+fn no_whole_kw(rt: HostRuntime) -> Result<(), Fail> {
+    for line in [
+        "0-6 0.001 MWh - -",
+        "0-226 -20 MWh - -",
+        "0-100 0.5 MWh 1.000 -",
+    ] {
+        let fault = fault_in(rt.alloc(), line)?;
+        assert_eq!(rt; fault, Some((2, 1, NotWholeKw)), "{line}");
+    }
+    Ok(())
+}
+
+// A megabyte of one word, of many words, of a comment, and of empty lines.
+#[test]
+fn long_texts(rt: HostRuntime) -> Result<(), Fail> {
+    let heap = rt.alloc();
+    let cases = [
+        ("net 5\n", "9", 1, 0, Expected(Avoided)),
+        ("net ", "9", 0, 1, Bounds(ZoneNet)),
+        ("net 5", " 9", 0, 2, Expected(End)),
+        ("net 5 #", " #", 1, 2, Expected(End)),
+        ("", "\n", 1_000_001, 0, Expected(Net)),
+    ];
+    for (front, middle, line, word, problem) in cases {
+        let text = stretched(heap, front, middle, b"\navoided 5 5")?;
+        let fault = fault_of(heap, text.as_slice());
+        assert_eq!(rt; fault, Some((line, word, problem)));
+    }
+    Ok(())
+}

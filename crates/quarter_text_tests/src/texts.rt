@@ -1,0 +1,63 @@
+// What the library makes of a text.
+use quarter_text::fault::{Problem, ReadFault, TextFault};
+use quarter_text::message::{Message, word_of};
+use quarter_text::printing::quarter_text;
+use quarter_text::reading::read_quarter;
+use std::alloc::{AllocError, Global};
+use writing::sheet_writer::sheet_vec;
+
+/// A text with a megabyte of the middle part.
+pub(crate) fn stretched(
+    heap: Global,
+    front: &str,
+    middle: &str,
+    back: &[u8],
+) -> Result<Vec<u8>, AllocError> {
+    let mut text = Vec::from_slice(heap, front.as_bytes())?;
+    for byte in middle.bytes().cycle().take(1_000_000) {
+        text.push(byte)?;
+    }
+    text.extend_from_slice(back)?;
+    Ok(text)
+}
+
+/// The head lines, and then these.
+pub(crate) fn with_head(heap: Global, lines: &str) -> Result<String, AllocError> {
+    format!(in heap; "net 0\navoided -\n{lines}")
+}
+
+/// The line, the word and the problem of a text that is refused.
+pub(crate) fn fault_of(heap: Global, text: &[u8]) -> Option<(usize, usize, Problem)> {
+    match read_quarter(heap, text) {
+        Err(ReadFault::Text(fault)) => Some((fault.line, fault.word, fault.problem)),
+        _ => None,
+    }
+}
+
+/// The same of lines of slots, which begin at line 2.
+pub(crate) fn fault_in(
+    heap: Global,
+    lines: &str,
+) -> Result<Option<(usize, usize, Problem)>, AllocError> {
+    Ok(fault_of(heap, with_head(heap, lines)?.as_bytes()))
+}
+
+fn message(heap: Global, text: &[u8], fault: TextFault) -> Result<String, AllocError> {
+    let word = word_of(heap, text, fault)?;
+    format!(in heap; "{}", Message { fault, word })
+}
+
+/// The sheet of a text.
+pub(crate) fn sheet_of(heap: Global, text: &[u8]) -> Result<Vec<u8>, ReadFault> {
+    let quarter = read_quarter(heap, text)?;
+    Ok(sheet_vec(heap, &quarter)?)
+}
+
+/// A text, read and printed; or what is said of it, if it is refused.
+pub(crate) fn printed(heap: Global, text: &[u8]) -> Result<String, AllocError> {
+    match read_quarter(heap, text) {
+        Ok(quarter) => quarter_text(heap, &quarter),
+        Err(ReadFault::Text(fault)) => message(heap, text, fault),
+        Err(ReadFault::Memory) => Err(AllocError),
+    }
+}
