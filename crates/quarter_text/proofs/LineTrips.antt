@@ -175,12 +175,12 @@ slots_read a b o =
     ⊎_elim
     (λ (e : a ≡ 225). manual_read a b (o.manual (omega (arith, e))) (rw e (record { bytes = refl; some = omega arith })) (λ ws. rw e refl))
     (λ (x : a ≡ 225 → ⊥). ⊎_elim
-        (λ (e : a ≡ 226). manual_read a b (o.manual (omega (arith, e))) (rw e (record { bytes = refl; some = omega arith })) (λ ws. rw e refl))
-        (λ (y : a ≡ 226 → ⊥). ⊎_elim
-            (λ (e : a ≡ 227). manual_read a b (o.manual (omega (arith, e))) (rw e (record { bytes = refl; some = omega arith })) (λ ws. rw e refl))
-            (λ (z : a ≡ 227 → ⊥). cycles_read a b (a == b) refl (ne_eqb a 225 x) (ne_eqb a 226 y) (ne_eqb a 227 z) o.order o.within)
-            (cases_eq a 227))
-        (cases_eq a 226))
+    (λ (e : a ≡ 226). manual_read a b (o.manual (omega (arith, e))) (rw e (record { bytes = refl; some = omega arith })) (λ ws. rw e refl))
+    (λ (y : a ≡ 226 → ⊥). ⊎_elim
+    (λ (e : a ≡ 227). manual_read a b (o.manual (omega (arith, e))) (rw e (record { bytes = refl; some = omega arith })) (λ ws. rw e refl))
+    (λ (z : a ≡ 227 → ⊥). cycles_read a b (a == b) refl (ne_eqb a 225 x) (ne_eqb a 226 y) (ne_eqb a 227 z) o.order o.within)
+    (cases_eq a 227))
+    (cases_eq a 226))
     (cases_eq a 225)
 
 -- THE WORDS OF THE HEAD
@@ -192,6 +192,7 @@ pub avoided_words : (p : Option Price) → words_of (codes "avoided " ++ price_t
 avoided_words p = word_first (codes "avoided") (price_text p) (record { bytes = refl; some = omega arith }) ∙ ap (λ w. codes "avoided" ∷ w) (word_last (price_text p) (price_word p))
 
 pub head_inline : (z : ZoneNet) (p : Option Price) → (inline (codes "net " ++ signed_decimal z.kw) ≡ true) × (inline (codes "avoided " ++ price_text p) ≡ true)
-head_inline z p =
-    (inline_joined (codes "net ") (signed_decimal z.kw) refl (inline_word (signed_decimal z.kw) (signed_read z.kw (net_fits z)).word.bytes),
-    inline_joined (codes "avoided ") (price_text p) refl (inline_word (price_text p) (price_word p).bytes))
+head_inline z p = (
+  inline_joined (codes "net ") (signed_decimal z.kw) refl (inline_word (signed_decimal z.kw) (signed_read z.kw (net_fits z)).word.bytes),
+  inline_joined (codes "avoided ") (price_text p) refl (inline_word (price_text p) (price_word p).bytes),
+)

@@ -70,21 +70,21 @@ module _ (m : ℕ → Slot) where
   in_run (suc k) i l h = ⊎_elim
       (λ (e : ends_run m k ≡ true). ap m (omega (arith, h, l, start_next k e)))
       (λ (e : ends_run m k ≡ false). ⊎_elim
-          (λ (s : i ≡ suc k). ap m s)
-          (λ (n : i ≡ suc k → ⊥). in_run k i (omega (arith, l, start_stays k e)) (omega (arith, h, n)) ∙ (goes_on k e).0)
-          (cases_eq i (suc k)))
+      (λ (s : i ≡ suc k). ap m s)
+      (λ (n : i ≡ suc k → ⊥). in_run k i (omega (arith, l, start_stays k e)) (omega (arith, h, n)) ∙ (goes_on k e).0)
+      (cases_eq i (suc k)))
       (cases_Bool (ends_run m k))
 
   -- manual slots stand alone
   pub one_line : (k : ℕ) → k < 228 → OneLine (run_start m k) k
   one_line k l = record { order = start_low k; within = l; manual = alone k }
     where
-    alone : (k : ℕ) → 225 ≤ run_start m k → k ≡ run_start m k
-    alone zero h = omega (arith, h, start_first)
-    alone (suc k) h = ⊎_elim
-        (λ (e : ends_run m k ≡ true). sym (start_next k e))
-        (λ (e : ends_run m k ≡ false). omega (arith, h, start_stays k e, start_low k, (goes_on k e).1))
-        (cases_Bool (ends_run m k))
+      alone : (k : ℕ) → 225 ≤ run_start m k → k ≡ run_start m k
+      alone zero h = omega (arith, h, start_first)
+      alone (suc k) h = ⊎_elim
+          (λ (e : ends_run m k ≡ true). sym (start_next k e))
+          (λ (e : ends_run m k ≡ false). omega (arith, h, start_stays k e, start_low k, (goes_on k e).1))
+          (cases_Bool (ends_run m k))
 
 -- NAMING
 

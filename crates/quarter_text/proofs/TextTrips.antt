@@ -58,9 +58,9 @@ head_leads z v =
     let net = leads_line (codes "net " ++ signed_decimal z.kw) blank (netted z) (head_inline z v).0 (rw (net_words z, net_there z) refl) in
     let value = leads_line (codes "avoided " ++ price_text v) (netted z) (headed z v) (head_inline z v).1 (rw (avoided_words v, avoided_there v) refl) in
     let whole : ((codes "net " ++ signed_decimal z.kw) ++ (10 ∷ [])) ++ ((codes "avoided " ++ price_text v) ++ (10 ∷ [])) ≡ codes "net " ++ (signed_decimal z.kw ++ (10 ∷ (codes "avoided " ++ (price_text v ++ (10 ∷ []))))) =
-        append_assoc (codes "net " ++ signed_decimal z.kw) (10 ∷ []) ((codes "avoided " ++ price_text v) ++ (10 ∷ []))
-        ∙ append_assoc (codes "net ") (signed_decimal z.kw) (10 ∷ ((codes "avoided " ++ price_text v) ++ (10 ∷ [])))
-        ∙ ap (λ t. codes "net " ++ (signed_decimal z.kw ++ (10 ∷ t))) (append_assoc (codes "avoided ") (price_text v) (10 ∷ [])) in
+    append_assoc (codes "net " ++ signed_decimal z.kw) (10 ∷ []) ((codes "avoided " ++ price_text v) ++ (10 ∷ []))
+    ∙ append_assoc (codes "net ") (signed_decimal z.kw) (10 ∷ ((codes "avoided " ++ price_text v) ++ (10 ∷ [])))
+    ∙ ap (λ t. codes "net " ++ (signed_decimal z.kw ++ (10 ∷ t))) (append_assoc (codes "avoided ") (price_text v) (10 ∷ [])) in
     subst (λ t. Leads t blank (headed z v)) whole (leads_both ((codes "net " ++ signed_decimal z.kw) ++ (10 ∷ [])) ((codes "avoided " ++ price_text v) ++ (10 ∷ [])) blank (netted z) (headed z v) net value)
 
 -- THE SLOTS
@@ -86,8 +86,8 @@ run_leads z v a b s l o k =
     let r = slots_read a b o in
     let words : words_of (slots_text a b ++ (32 ∷ told_text s)) ≡ slots_text a b ∷ told_words s = word_first (slots_text a b) (told_text s) r.word ∙ ap (λ w. slots_text a b ∷ w) (told_split s) in
     let line = leads_line (slots_text a b ++ (32 ∷ told_text s)) (with_slots (headed z v) l) (with_slots (headed z v) k.named)
-        (inline_joined (slots_text a b) (32 ∷ told_text s) (inline_word (slots_text a b) r.word.bytes) (and_from true (inline (told_text s)) refl (told_inline s)))
-        (rw (words, r.range (told_words s), told_there (slots_text a b) s (slots_from a b), k.is) refl) in
+    (inline_joined (slots_text a b) (32 ∷ told_text s) (inline_word (slots_text a b) r.word.bytes) (and_from true (inline (told_text s)) refl (told_inline s)))
+    (rw (words, r.range (told_words s), told_there (slots_text a b) s (slots_from a b), k.is) refl) in
     subst (λ t. Leads t (with_slots (headed z v) l) (with_slots (headed z v) k.named)) (append_assoc (slots_text a b) (32 ∷ told_text s) (10 ∷ [])) line
 
 -- after the first k slots
@@ -157,9 +157,9 @@ module _ (m : ℕ → Slot) (z : ZoneNet) (v : Option Price) where
   stood_next : (k : ℕ) → k < 228 → Stood m z v k → Stood m z v (suc k)
   stood_next k b s = ⊎_elim
       (λ (e : ends_run m k ≡ true). ⊎_elim
-          (λ (t : same_slot (m k) idle ≡ true). stood_idle k e t s)
-          (λ (t : same_slot (m k) idle ≡ false). stood_named k b e t s)
-          (cases_Bool (same_slot (m k) idle)))
+      (λ (t : same_slot (m k) idle ≡ true). stood_idle k e t s)
+      (λ (t : same_slot (m k) idle ≡ false). stood_named k b e t s)
+      (cases_Bool (same_slot (m k) idle)))
       (λ (e : ends_run m k ≡ false). stood_on k e s)
       (cases_Bool (ends_run m k))
 

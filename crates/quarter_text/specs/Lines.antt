@@ -31,6 +31,10 @@ words_in l = map (λ w. w.now) l.words.now
 abbrev pub Read : Type 0 → Type 0
 Read X = Result X WordFault
 
+-- something else should stand at k
+abbrev pub expected_at : ℕ → Part → WordFault
+expected_at k p = record { word = k; problem = Expected p }
+
 -- the word at k is refused
 abbrev pub at_word : {X : Type 0} → ℕ → Problem → Read X
 at_word k p = Err (record { word = k; problem = p })
@@ -43,7 +47,7 @@ then (Err e) f = Err e
 -- what stands at k, or else what should
 abbrev pub present : {X : Type 0} → ℕ → Part → Option X → Read X
 present k p (Some x) = Ok x
-present k p None = at_word k (Expected p)
+present k p None = Err (expected_at k p)
 
 abbrev pub word_at : Words → ℕ → Part → Read (List ℕ)
 word_at ws k p = present k p (slice_get ws k)
@@ -54,11 +58,11 @@ bytes_read (Err e) = Err e
 
 -- this very word at k
 abbrev pub keyword : Words → ℕ → Part → List ℕ → Read (Unit {0})
-keyword ws k p w = then (word_at ws k p) (λ v. cond (bytes_eq v w) (Ok tt) (at_word k (Expected p)))
+keyword ws k p w = then (word_at ws k p) (λ v. cond (bytes_eq v w) (Ok tt) (Err (expected_at k p)))
 
 -- no word at k, nor after it
 abbrev pub end_at : Words → ℕ → Read (Unit {0})
-end_at ws k = cond (nat_le (length ws) k) (Ok tt) (at_word k (Expected part.End))
+end_at ws k = cond (nat_le (length ws) k) (Ok tt) (Err (expected_at k part.End))
 
 abbrev pub in_bounds : {Q : Type 0} → ℕ → Result Q OutOfBounds → Read Q
 in_bounds k (Ok q) = Ok q

@@ -1,7 +1,7 @@
 // What the words of a line say.
 ghost use Rattle.std.specs.Prelude.{◌≡◌, ◌*◌, ◌<◌, ◌≤◌, IfOk, Ok, ◌==◌};
 ghost use Rattle.std.specs.List.{position};
-ghost use Rattle.quarter_text.specs.Lines.{at_word, avoided_line, bytes_read, end_at, in_bounds, is_word, keyword, number_at, numbered, power, price_at, prices_after, quantity_at, range_line, read_number, slot_of, slots_from, then, told_by, weight_of_range, word_at, words_in, zone_net_line};
+ghost use Rattle.quarter_text.specs.Lines.{at_word, avoided_line, bytes_read, end_at, expected_at, in_bounds, is_word, keyword, number_at, numbered, power, price_at, prices_after, quantity_at, range_line, read_number, slot_of, slots_from, then, told_by, weight_of_range, word_at, words_in, zone_net_line};
 ghost use Rattle.quarter_text.specs.declared.fault.Part.TheVariants as part;
 ghost use Rattle.units.specs.Quantities.{demand_of};
 ghost use Rattle.quarter_text.specs.Numerals.{capped, number_of};
@@ -9,6 +9,7 @@ ghost use Rattle.quarter_text.specs.Numerals.{capped, number_of};
 use crate::decimal::{digits, first_at};
 use crate::fault::{Part, Problem, WordFault};
 use crate::numeral::Numeral;
+use crate::words::nth;
 use source::product::weight_of;
 use source::slot::{Reading, Slot};
 use units::bounds::OutOfBounds;
@@ -34,6 +35,15 @@ pub(crate) fn at_word<T>(word: usize, problem: Problem) -> Result<T, WordFault>
     ensures { result ≡ at_word word problem }
 {
     Err(WordFault { word, problem })
+}
+
+fn expected(word: usize, part: Part) -> WordFault
+    ensures { result ≡ expected_at word part }
+{
+    WordFault {
+        word,
+        problem: Problem::Expected(part),
+    }
 }
 
 fn in_bounds<Q>(word: usize, made: Result<Q, OutOfBounds>) -> Result<Q, WordFault>
@@ -74,11 +84,11 @@ fn slot_of(word: &[u8]) -> Result<usize, WordFault>
     ensures reads { result ≡ slot_of word.now }
     ensures within { IfOk result (λ k. k < 228) }
 {
-    match digits(word) {
-        None => at_word(0, Problem::Expected(Part::Slots)),
-        Some(slot) if slot < 228 => Ok(slot as usize),
-        Some(_) => at_word(0, Problem::NoSuchSlot),
+    let slot = digits(word).ok_or(expected(0, Part::Slots))?;
+    if slot >= 228 {
+        return at_word(0, Problem::NoSuchSlot);
     }
+    Ok(slot as usize)
 }
 
 // A slot, or the first and the last of a range.
@@ -120,51 +130,39 @@ impl<'a> Line<'a> {
     fn word(&self, at: usize, part: Part) -> Result<&'a [u8], WordFault>
         ensures { bytes_read result ≡ word_at (words_in self.now) at part }
     {
-        match self.words.get(at) {
-            Some(word) => Ok(*word),
-            None => at_word(at, Problem::Expected(part)),
-        }
+        nth(self.words, at).ok_or(expected(at, part))
     }
 
     // Whether this very word stands there.
     fn has(&self, at: usize, wanted: &[u8]) -> bool
         ensures { result ≡ is_word (words_in self.now) at wanted.now }
     {
-        match self.words.get(at) {
-            Some(word) => *word == wanted,
-            None => false,
-        }
+        nth(self.words, at).is_some_and(|word| word == wanted)
     }
 
     fn keyword(&self, at: usize, part: Part, wanted: &[u8]) -> Result<(), WordFault>
         ensures { result ≡ keyword (words_in self.now) at part wanted.now }
     {
-        if self.has(at, wanted) {
-            Ok(())
-        } else {
-            at_word(at, Problem::Expected(part))
+        if !self.has(at, wanted) {
+            return Err(expected(at, part));
         }
+        Ok(())
     }
 
     fn end(&self, at: usize) -> Result<(), WordFault>
         ensures { result ≡ end_at (words_in self.now) at }
     {
-        if self.words.len() <= at {
-            Ok(())
-        } else {
-            at_word(at, Problem::Expected(Part::End))
+        if self.words.len() > at {
+            return Err(expected(at, Part::End));
         }
+        Ok(())
     }
 
     fn numeral(&self, at: usize, part: Part, places: usize) -> Result<Numeral, WordFault>
         requires { places ≤ 3 }
         ensures { read_number result ≡ then (number_at places (words_in self.now) at part) (λ n. Ok (capped n)) }
     {
-        let word = self.word(at, part)?;
-        match Numeral::read(word, places) {
-            Some(numeral) => Ok(numeral),
-            None => at_word(at, Problem::Expected(part)),
-        }
+        Numeral::read(self.word(at, part)?, places).ok_or(expected(at, part))
     }
 
     fn price(&self, at: usize, part: Part) -> Result<Option<Price>, WordFault>

@@ -34,8 +34,5 @@ pub(crate) fn words_of(heap: Global, line: &[u8]) -> Result<Vec<&[u8]>, AllocErr
 pub(crate) fn nth<'a>(parts: &[&'a [u8]], place: usize) -> Option<&'a [u8]>
     ensures { option_map (λ part. part.now) result ≡ slice_get (map (λ part. part.now) parts.now) place }
 {
-    match parts.get(place) {
-        Some(part) => Some(*part),
-        None => None,
-    }
+    parts.get(place).copied()
 }
