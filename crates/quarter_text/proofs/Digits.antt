@@ -1,7 +1,7 @@
 -- Numbers that are printed are numerals, and are read as themselves.
 use Rattle.std.proofs.Common.{◌≡◌, ℕ, suc, ◌+◌, ◌-◌, ◌*◌, ◌/◌, ◌%◌, ◌^◌, ◌<◌, ◌≤◌, Bool, true, false, not, cond, ◌&&◌, ◌||◌, ◌==◌, nat_lt, List, [], ◌∷◌, ◌++◌, length, take, drop, ℤ, pos, negsuc, neg_ℤ, nat_abs, Some, None, Option, sym, refl, ap, ◌∙◌, append-nil, decimal, length-append, arith}
 use Rattle.std.proofs.lemmas.Bool.Decides.{nat_tests}
-use Rattle.std.proofs.lemmas.Bool.{and_parts, and_from, le-ltb, lt-ltb}
+use Rattle.std.proofs.lemmas.Bool.{and_parts, and_from, eq-eqb, le-ltb, lt-ltb}
 use Rattle.std.proofs.lemmas.Fmt.{decimal_by_steps}
 use Rattle.std.specs.Char.{is_ascii_digit}
 use Rattle.std.specs.Fmt.{signed_decimal}
@@ -67,27 +67,22 @@ digits_read n (b ∷ w) h = h.value
 
 -- A BYTE THAT IS NO DIGIT
 
--- the place of a byte that is no digit, after digits
-prefix_digits : (c : ℕ) (w u : List ℕ) → is_ascii_digit c ≡ false → all_digits w ≡ true → prefix_len (λ b. not (b == c)) (w ++ (c ∷ u)) ≡ length w
-prefix_digits c [] u n p = grind (arith, nat_tests)
-prefix_digits c (b ∷ w) u n p =
+-- digits are passed over
+past_digits : (c : ℕ) (w u : List ℕ) → is_ascii_digit c ≡ false → all_digits w ≡ true → prefix_len (λ b. not (b == c)) (w ++ u) ≡ length w + prefix_len (λ b. not (b == c)) u
+past_digits c [] u n p = omega arith
+past_digits c (b ∷ w) u n p =
     let s = and_parts (is_ascii_digit b) (all_digits w) p in
     let ne : (b == c) ≡ false = grind (arith, nat_tests, s.0, n) in
-    let one : 1 + length w ≡ suc (length w) = omega arith in
-    rw (ne, prefix_digits c w u n s.1) one
-
-none_digits : (c : ℕ) (w : List ℕ) → is_ascii_digit c ≡ false → all_digits w ≡ true → prefix_len (λ b. not (b == c)) w ≡ length w
-none_digits c [] n p = refl
-none_digits c (b ∷ w) n p =
-    let s = and_parts (is_ascii_digit b) (all_digits w) p in
-    let ne : (b == c) ≡ false = grind (arith, nat_tests, s.0, n) in
-    let one : 1 + length w ≡ suc (length w) = omega arith in
-    rw (ne, none_digits c w n s.1) one
+    rw (ne, past_digits c w u n s.1) (omega arith)
 
 pub no_place : (c : ℕ) (w : List ℕ) → is_ascii_digit c ≡ false → all_digits w ≡ true → position (λ b. b == c) w ≡ None
-no_place c w n p = rw (none_digits c w n p, le-ltb (length w) (length w) (omega arith)) refl
+no_place c w n p =
+    let whole : prefix_len (λ b. not (b == c)) w ≡ length w = ap (prefix_len (λ b. not (b == c))) (sym (append-nil w)) ∙ past_digits c w [] n p ∙ omega arith in
+    rw (whole, le-ltb (length w) (length w) (omega arith)) refl
 
 pub place_after : (c : ℕ) (w u : List ℕ) → is_ascii_digit c ≡ false → all_digits w ≡ true → position (λ b. b == c) (w ++ (c ∷ u)) ≡ Some (length w)
 place_after c w u n p =
+    let here : prefix_len (λ b. not (b == c)) (c ∷ u) ≡ 0 = rw (eq-eqb c c refl) refl in
+    let front : prefix_len (λ b. not (b == c)) (w ++ (c ∷ u)) ≡ length w = past_digits c w (c ∷ u) n p ∙ omega (arith, here) in
     let l : length w < length (w ++ (c ∷ u)) = omega (arith, length-append w (c ∷ u)) in
-    rw (prefix_digits c w u n p, lt-ltb (length w) (length (w ++ (c ∷ u))) l) refl
+    rw (front, lt-ltb (length w) (length (w ++ (c ∷ u))) l) refl

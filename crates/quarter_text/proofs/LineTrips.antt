@@ -24,7 +24,7 @@ use Rattle.quarter_text.specs.declared.fault.Part.TheVariants as part
 use Rattle.quarter_text.specs.declared.line.Range.{Range}
 use Rattle.quarter_text.proofs.Tokens.{Word, inline, inline_joined, inline_word, plain, plain_joined, word_first, word_last}
 use Rattle.quarter_text.proofs.Digits.{Writes, all_digits, decimal_writes, digits_plain, digits_read, no_place, place_after, word_of_digits}
-use Rattle.quarter_text.proofs.Numbers.{Reads, digits_first, euro_first, euros_read, number, signed_read, value_number}
+use Rattle.quarter_text.proofs.Numbers.{Reads, digits_first, euros_read, no_letter, number, signed_read, value_number}
 
 -- PRICES
 
@@ -129,9 +129,6 @@ module _ (a b : ℕ) (l : a ≤ b) (m : b < 228) where
   high : Writes b (decimal b)
   high = decimal_writes b (omega (arith, m))
 
-  no_letter : (w u : List ℕ) (n c : ℕ) (v : List ℕ) → Writes n w → 65 ≤ c → bytes_eq (w ++ u) (c ∷ v) ≡ false
-  no_letter w u n c v h k = euro_first w u h.only h.some c v k
-
   one_there : numbered (decimal a) (position (λ x. x == 45) (decimal a)) ≡ Ok (slots_from a a)
   one_there = rw (no_place 45 (decimal a) refl low.only, slot_there a (decimal a) (omega (arith, l, m)) low) refl
 
@@ -164,7 +161,7 @@ cycles_read a b true e x y z l m =
     }
 cycles_read a b false e x y z l m =
     let h = decimal_writes a (omega (arith, l, m)) in
-    let no : (c : ℕ) (v : List ℕ) → 65 ≤ c → bytes_eq (decimal a ++ (45 ∷ decimal b)) (c ∷ v) ≡ false = λ c v k. no_letter a b l m (decimal a) (45 ∷ decimal b) a c v h k in
+    let no : (c : ℕ) (v : List ℕ) → 65 ≤ c → bytes_eq (decimal a ++ (45 ∷ decimal b)) (c ∷ v) ≡ false = no_letter (decimal a) (45 ∷ decimal b) h.only h.some in
     record {
       word = rw (x, y, z, e) (range_word a b l m);
       range = λ ws. rw (x, y, z, e, no 115 (codes "cheduled") (omega arith), no 117 (codes "p") (omega arith), no 100 (codes "own") (omega arith)) (both_there a b l m);

@@ -32,13 +32,16 @@ pub record Reads (places : ℕ) (z : ℤ) (w : List ℕ) : Type 0 where
 whole_magnitude : (n : ℕ) (w : List ℕ) → Writes n w → magnitude 0 w ≡ Some n
 whole_magnitude n w h = rw (no_place 46 w refl h.only, digits_read n w h) (ap Some (omega arith))
 
--- of digits alone, or of a minus sign and digits
-pub digits_first : (n : ℕ) (w : List ℕ) → Writes n w → (c : ℕ) (v : List ℕ) → 65 ≤ c → bytes_eq w (c ∷ v) ≡ false
-digits_first n [] h c v l = refl
-digits_first n (b ∷ w) h c v l =
-    let s = and_parts (is_ascii_digit b) (all_digits w) h.only in
+-- digits begin with no letter, whatever follows them
+pub no_letter : (w u : List ℕ) → all_digits w ≡ true → 1 ≤ length w → (c : ℕ) (v : List ℕ) → 65 ≤ c → bytes_eq (w ++ u) (c ∷ v) ≡ false
+no_letter [] u p l c v m = absurd (omega (arith, l))
+no_letter (b ∷ w) u p l c v m =
+    let s = and_parts (is_ascii_digit b) (all_digits w) p in
     let ne : (b == c) ≡ false = grind (arith, nat_tests, s.0) in
     rw ne refl
+
+pub digits_first : (n : ℕ) (w : List ℕ) → Writes n w → (c : ℕ) (v : List ℕ) → 65 ≤ c → bytes_eq w (c ∷ v) ≡ false
+digits_first n w h c v l = ap (λ x. bytes_eq x (c ∷ v)) (sym (append-nil w)) ∙ no_letter w [] h.only h.some c v l
 
 unsigned : (places n : ℕ) (w : List ℕ) → 1 ≤ length w → ((b : ℕ) (v : List ℕ) → w ≡ b ∷ v → (b == 45) ≡ false) → magnitude places w ≡ Some n → numeral places w ≡ Some (number (pos n))
 unsigned places n [] l f e = absurd (omega (arith, l))
@@ -108,13 +111,6 @@ euro_plain n l =
 euro_long : (n : ℕ) → 1 ≤ length (euro_digits n)
 euro_long n = omega (arith, ap length (euro_text n), length-append (decimal (n / 100)) (46 ∷ cents_digits n))
 
-pub euro_first : (w u : List ℕ) → all_digits w ≡ true → 1 ≤ length w → (c : ℕ) (v : List ℕ) → 65 ≤ c → bytes_eq (w ++ u) (c ∷ v) ≡ false
-euro_first [] u p l c v m = absurd (omega (arith, l))
-euro_first (b ∷ w) u p l c v m =
-    let s = and_parts (is_ascii_digit b) (all_digits w) p in
-    let ne : (b == c) ≡ false = grind (arith, nat_tests, s.0) in
-    rw ne refl
-
 pub euros_read : (z : ℤ) → nat_abs z < 2 ^ 63 → Reads 2 z (euros z)
 unfolding euros
 euros_read (pos n) l =
@@ -123,7 +119,7 @@ euros_read (pos n) l =
     record {
       word = record { bytes = euro_plain n k; some = euro_long n };
       value = unsigned 2 n (euro_digits n) (euro_long n) (λ b v e. first_digit (decimal (n / 100)) h.only b v (46 ∷ cents_digits n) h.some (sym (euro_text n) ∙ e)) (euros_magnitude n k);
-      first = λ c v m. ap (λ w. bytes_eq w (c ∷ v)) (euro_text n) ∙ euro_first (decimal (n / 100)) (46 ∷ cents_digits n) h.only h.some c v m;
+      first = λ c v m. ap (λ w. bytes_eq w (c ∷ v)) (euro_text n) ∙ no_letter (decimal (n / 100)) (46 ∷ cents_digits n) h.only h.some c v m;
     }
 euros_read (negsuc n) l =
     let k : suc n / 100 < 2 ^ 64 = omega (arith, l) in
