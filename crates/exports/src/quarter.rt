@@ -50,7 +50,7 @@ impl From<Result<Quote, QuoteFault>> for PlainQuote {
 }
 
 fn plain_quote<R: Rulebook>(figures: &Figures, rulebook: &R) -> PlainQuote
-    ensures { result ≡ plain_outcome (R.Rulebook.ruling figures.now) figures.now.avoided }
+    ensures { result ≡ plain_outcome (R.Rulebook.ruling rulebook.now figures.now) figures.now.avoided }
 {
     PlainQuote::from(quote_figures(figures, rulebook))
 }

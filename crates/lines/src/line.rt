@@ -37,7 +37,7 @@ impl fmt::Display for Line {
 
 /// The line of figures under a rulebook.
 pub fn line_of<R: Rulebook>(figures: &Figures, rulebook: &R) -> Line
-    ensures { line_text result ≡ outcome_text R.Rulebook.CODE (R.Rulebook.ruling figures.now) figures.now.avoided }
+    ensures { line_text result ≡ outcome_text R.Rulebook.CODE (R.Rulebook.ruling rulebook.now figures.now) figures.now.avoided }
 {
     Line {
         code: R::CODE,

@@ -10,8 +10,8 @@ use Rattle.source.specs.declared.direction.Direction.TheVariants.{Up, Down}
 use Rattle.units.specs.Exact.{Exact}
 use Rattle.units.specs.Rounding.{Nearest}
 use Rattle.units.specs.declared.price.Price.{Price}
-use Rattle.pricing.specs.Bounds.{BoundedBy, HalfCentFromMean, KeepsLaws}
-use Rattle.pricing.specs.Laws.{Beyond}
+use Rattle.pricing.specs.Bounds.{BoundedBy, HalfCentFromMean}
+use Rattle.pricing.specs.Laws.{Beyond, KeepsLaws}
 use Rattle.pricing.specs.Outcomes.{Outcome, priced}
 use Rattle.pricing.specs.Quotes.{standing}
 use Rattle.pricing.specs.declared.ruling.Net.{Net}

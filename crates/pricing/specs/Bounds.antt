@@ -9,20 +9,10 @@ use Rattle.source.specs.Meanings.{Meaning}
 use Rattle.source.specs.declared.direction.Direction.{Direction}
 use Rattle.source.specs.declared.direction.Direction.TheVariants as dir
 use Rattle.units.specs.declared.price.Price.{Price}
-use Rattle.pricing.specs.Laws.{BeyondMean, Follows, FromFormed, Heeds}
-use Rattle.pricing.specs.Outcomes.{Outcome, net_of}
 use Rattle.pricing.specs.Quotes.{Answer}
 use Rattle.pricing.specs.declared.quote.Quote.{Quote}
 use Rattle.pricing.specs.declared.quote.QuoteDirection.{QuoteDirection}
 use Rattle.pricing.specs.declared.quote.QuoteDirection.TheVariants.{Up, Down, Avoided}
-use Rattle.pricing.specs.declared.ruling.Net.{Net}
-
--- the four laws, of one ruling
-pub record KeepsLaws (net : Net) (f : Figures) (o : Outcome) : Type 0 where
-  pub direction : Follows (net_of net f) o
-  pub counting : Heeds (net_of net f) f o
-  pub formed : FromFormed f o
-  pub mean : BeyondMean f o
 
 -- an up price p is at most half a cent below S / V, a down price at most half a cent above
 abbrev pub HalfCentFromMean : Direction → Side → ℤ → Type 0

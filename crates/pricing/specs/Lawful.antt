@@ -9,16 +9,17 @@ use Rattle.figures.specs.declared.quarter_figures.Figures.{Figures}
 use Rattle.figures.specs.declared.side.Manual.{Manual}
 use Rattle.figures.specs.declared.side.Side.{Side}
 use Rattle.figures.specs.declared.span.Span.{Span}
-use Rattle.figures.proofs.Counted.{by_part}
+use Rattle.figures.proofs.Counted.{by_part, counts_shown}
 use Rattle.figures.proofs.Facts.{sound_in}
 use Rattle.figures.proofs.Sound.{ManualSound, Sound}
 use Rattle.source.specs.declared.direction.Direction.{Direction}
 use Rattle.source.specs.declared.direction.Direction.TheVariants.{Up, Down}
 use Rattle.units.specs.Exact.{Exact, whole}
-use Rattle.pricing.specs.Laws.{BeyondMean, Follows, FromFormed, Heeds, Within}
-use Rattle.pricing.specs.Outcomes.{avoided, decided, decided_in, outcome_at}
 use Rattle.source.specs.Directions.{toward}
-use Rattle.pricing.specs.Rulings.{Pricing, automatic_or_manual, extreme_counting, finnish_price, mean_or_manual, mean_price}
+use Rattle.pricing.specs.Laws.{BeyondMean, Follows, FromFormed, Heeds, KeepsLaws, Within}
+use Rattle.pricing.specs.Outcomes.{avoided, decided, decided_in, net_of, outcome_at}
+use Rattle.pricing.specs.Rulings.{Pricing, automatic_or_manual, by_net, extreme_counting, finnish_price, mean_or_manual, mean_price}
+use Rattle.pricing.specs.declared.ruling.Net.{Net}
 use Rattle.pricing.specs.Covers.{Covers, covers_add, covers_cycles, covers_manual, covers_none, covers_quotient, no_value}
 use Rattle.pricing.specs.Fits.{automatic_fits, counting_fits, cycles_fit, formed_fits, mean_fits, over_fits}
 use Rattle.pricing.specs.Reach.{OnSome, Positive, Tops, extreme_first, extreme_keeps, extreme_second, extreme_tops, tops_parts, tops_self}
@@ -46,7 +47,7 @@ follows_at z price true b h g = follows_up z (price Up) (h refl)
 follows_at z price false true h g = follows_down z (price Down) (g refl)
 follows_at z price false false h g = tt
 
-pub follows : (z : ℤ) (price : Direction → Component) → Follows z (decided z price)
+follows : (z : ℤ) (price : Direction → Component) → Follows z (decided z price)
 follows z price = follows_at z price (int_lt (pos 0) z) (int_lt z (pos 0)) (true_lt (pos 0) z) (true_lt z (pos 0))
 
 outcome_some : (d : Direction) (o : Component) → is_some o ≡ true → outcome_at d o ≢ avoided
@@ -62,24 +63,34 @@ outcome_beyond f d None h = tt
 outcome_beyond f d (Some q) h = h q refl
 
 module _ (price : Pricing) (lawful : Lawful price) (z : ℤ) (f : Figures) where
-  pub heeds : Heeds z f (decided z (λ d. price d (side_in d f)))
-  heeds d e k x =
-      outcome_some d (price d (side_in d f)) (lawful.exists d (side_in d f) (sound_in f d) k)
+  heeds : Heeds z f (decided z (λ d. price d (side_in d f)))
+  heeds m d g e c x =
+      outcome_some d (price d (side_in d f)) (lawful.exists d (side_in d f) (sound_in f d) ((counts_shown m f g d).1 c))
       (subst (λ t. decided_in t (λ d. price d (side_in d f)) ≡ avoided) e x)
 
   formed_in : (t : Option Direction) → FromFormed f (decided_in t (λ d. price d (side_in d f)))
   formed_in None = tt
   formed_in (Some d) = outcome_formed f d (price d (side_in d f)) (lawful.fits d (side_in d f) (sound_in f d))
 
-  pub from_formed : FromFormed f (decided z (λ d. price d (side_in d f)))
+  from_formed : FromFormed f (decided z (λ d. price d (side_in d f)))
   from_formed = formed_in (toward z)
 
   beyond_in : (t : Option Direction) → BeyondMean f (decided_in t (λ d. price d (side_in d f)))
   beyond_in None = tt
   beyond_in (Some d) = outcome_beyond f d (price d (side_in d f)) (λ r e. lawful.covers d (side_in d f) r (sound_in f d) e)
 
-  pub beyond_mean : BeyondMean f (decided z (λ d. price d (side_in d f)))
+  beyond_mean : BeyondMean f (decided z (λ d. price d (side_in d f)))
   beyond_mean = beyond_in (toward z)
+
+pub rulebook_keeps : (net : Net) (price : Pricing) → Lawful price → (f : Figures) → KeepsLaws net f (by_net net price f)
+rulebook_keeps net price lawful f =
+    let z = net_of net f in
+    record {
+      direction = follows z (λ d. price d (side_in d f));
+      counting = heeds price lawful z f;
+      formed = from_formed price lawful z f;
+      mean = beyond_mean price lawful z f;
+    }
 
 -- ---- what the pricings share
 quotient_exists : (x : ℤ) (v : ℕ) → 1 ≤ v → is_some (quotient x v) ≡ true

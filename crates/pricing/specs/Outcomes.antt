@@ -1,10 +1,9 @@
 -- What a rulebook decides: avoided, or a direction with an exact price.
-use Rattle.std.specs.Prelude.{cond, ℤ, pos, Some, None, Option, int_lt}
+use Rattle.std.specs.Prelude.{ℤ, Some, None, Option}
 use Rattle.figures.specs.Components.{Component}
 use Rattle.figures.specs.declared.quarter_figures.Figures.{Figures}
 use Rattle.source.specs.Directions.{toward}
 use Rattle.source.specs.declared.direction.Direction.{Direction}
-use Rattle.source.specs.declared.direction.Direction.TheVariants.{Up, Down}
 use Rattle.units.specs.Exact.{Exact, exact_of}
 use Rattle.pricing.specs.declared.ruling.Net.{Net}
 use Rattle.pricing.specs.declared.ruling.Net.TheVariants.{Local, Zone}

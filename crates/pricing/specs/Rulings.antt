@@ -1,10 +1,12 @@
 -- The exact price of each rulebook, from the components in the net's direction.
-use Rattle.std.specs.Prelude.{cond}
+use Rattle.std.specs.Prelude.{if◌then◌else◌}
 use Rattle.figures.specs.Components.{Component, automatic_mean, counting_price, cycles_extreme, extreme, formed_price, manual_counts, over_manual, side_in, weighted_mean}
 use Rattle.figures.specs.declared.quarter_figures.Figures.{Figures}
 use Rattle.figures.specs.declared.side.Side.{Side}
 use Rattle.source.specs.declared.direction.Direction.{Direction}
-use Rattle.pricing.specs.Outcomes.{Outcome, decided}
+use Rattle.pricing.specs.Outcomes.{Outcome, decided, net_of}
+use Rattle.pricing.specs.declared.ruling.Net.{Net}
+use Rattle.pricing.specs.declared.ruling.Net.TheVariants.{Local, Zone}
 
 -- a price for each direction and side
 abbrev pub Pricing : Type 0
@@ -28,26 +30,24 @@ extreme_counting d s = extreme d (cycles_extreme d s) (over_manual counting_pric
 
 -- 5: the weighted mean if a manual slot counts, else the extreme of the automatic mean and the formed manual prices
 abbrev pub finnish_price : Pricing
-finnish_price d s = cond (manual_counts s) (weighted_mean s) (extreme d (automatic_mean s) (over_manual formed_price d s))
+finnish_price d s = if manual_counts s then weighted_mean s else extreme d (automatic_mean s) (over_manual formed_price d s)
+
+-- the price in the direction of the deciding net
+abbrev pub by_net : Net → Pricing → Figures → Outcome
+by_net net price f = decided (net_of net f) (λ d. price d (side_in d f))
 
 -- the rulebooks of codes 1 to 4 go by the local net, that of code 5 by the zone's
-abbrev pub by_local : Pricing → Figures → Outcome
-by_local price f = decided f.local_net (λ d. price d (side_in d f))
-
-abbrev pub by_zone : Pricing → Figures → Outcome
-by_zone price f = decided f.zone_net.kw (λ d. price d (side_in d f))
-
 abbrev pub weighted_average : Figures → Outcome
-weighted_average f = by_local mean_price f
+weighted_average f = by_net Local mean_price f
 
 abbrev pub combined_automatic : Figures → Outcome
-combined_automatic f = by_local automatic_or_manual f
+combined_automatic f = by_net Local automatic_or_manual f
 
 abbrev pub combined_all : Figures → Outcome
-combined_all f = by_local mean_or_manual f
+combined_all f = by_net Local mean_or_manual f
 
 abbrev pub max_min : Figures → Outcome
-max_min f = by_local extreme_counting f
+max_min f = by_net Local extreme_counting f
 
 abbrev pub finnish : Figures → Outcome
-finnish f = by_zone finnish_price f
+finnish f = by_net Zone finnish_price f

@@ -1,6 +1,9 @@
 // The quote of a quarter under a rulebook.
 ghost use Rattle.std.specs.Prelude.{◌≡◌, [], ◌∷◌, Some};
-ghost use Rattle.pricing.specs.Bounds.{KeepsLaws, QuoteBounded, SourceBounded};
+ghost use Rattle.figures.specs.Gathering.{Gives};
+ghost use Rattle.figures.specs.declared.quarter_figures.Figures.{Figures};
+ghost use Rattle.pricing.specs.Bounds.{QuoteBounded, SourceBounded};
+ghost use Rattle.pricing.specs.Laws.{KeepsLaws};
 ghost use Rattle.pricing.specs.Quotes.{Answer, Quoted, Quotes, letter, standing};
 
 use crate::fault::QuoteFault;
@@ -53,8 +56,8 @@ impl fmt::Display for QuoteDirection {
 
 /// The quote of figures that were worked out before.
 pub fn quote_figures<R: Rulebook>(figures: &Figures, rulebook: &R) -> Result<Quote, QuoteFault>
-    ensures value { Quotes R.Rulebook.CODE (R.Rulebook.ruling figures.now) figures.now.avoided result }
-    ensures laws_kept { KeepsLaws R.Rulebook.NET figures.now (R.Rulebook.ruling figures.now) }
+    ensures value { Quotes R.Rulebook.CODE (R.Rulebook.ruling rulebook.now figures.now) figures.now.avoided result }
+    ensures laws_kept { KeepsLaws R.Rulebook.NET figures.now (R.Rulebook.ruling rulebook.now figures.now) }
     ensures bounds_kept { QuoteBounded figures.now result }
 {
     let code = R::CODE;
@@ -78,8 +81,9 @@ pub fn quote_source<S: PriceSource, R: Rulebook>(
     source: &S,
     rulebook: &R,
 ) -> Result<Quote, QuoteFault>
-    ensures value { Quoted (S.PriceSource.means source.now) R.Rulebook.CODE R.Rulebook.ruling result }
-    ensures only_answer { (a : Answer) → Quoted (S.PriceSource.means source.now) R.Rulebook.CODE R.Rulebook.ruling a → a ≡ result }
+    ensures value { Quoted (S.PriceSource.means source.now) R.Rulebook.CODE (R.Rulebook.ruling rulebook.now) result }
+    ensures only_answer { (a : Answer) → Quoted (S.PriceSource.means source.now) R.Rulebook.CODE (R.Rulebook.ruling rulebook.now) a → a ≡ result }
+    ensures laws_kept { (f : Figures) → Gives (S.PriceSource.means source.now) f → KeepsLaws R.Rulebook.NET f (R.Rulebook.ruling rulebook.now f) }
     ensures bounds_kept { SourceBounded (S.PriceSource.means source.now) result }
 {
     let figures = figures_of(source)?;

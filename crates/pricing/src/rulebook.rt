@@ -2,13 +2,14 @@
 ghost use Rattle.std.specs.Prelude.{◌≡◌, ℕ};
 ghost use Rattle.figures.specs.declared.quarter_figures.Figures.{Figures};
 ghost use Rattle.pricing.specs.declared.ruling.Net.{Net};
-ghost use Rattle.pricing.specs.Laws.{BeyondMean, Follows, FromFormed, Heeds};
-ghost use Rattle.pricing.specs.Outcomes.{Outcome, net_of, outcome_of};
+ghost use Rattle.pricing.specs.Laws.{KeepsLaws};
+ghost use Rattle.pricing.specs.Outcomes.{Outcome, outcome_of};
 
 use crate::ruling::{Net, Ruling};
 use figures::quarter_figures::Figures;
 
 /// Whatever means one result for each set of figures and keeps the four laws, under a fixed code and by a fixed net.
+/// What it means belongs to the value, so that a rulebook may hold a price or another rulebook.
 pub trait Rulebook {
     const CODE: u16;
 
@@ -18,16 +19,10 @@ pub trait Rulebook {
 
     ghost NET: { Net };
 
-    ghost ruling: { Figures → Outcome };
+    ghost ruling: { Self → Figures → Outcome };
 
     fn decide(&self, figures: &Figures) -> Ruling
-        ensures { outcome_of result ≡ ruling figures.now };
+        ensures { outcome_of result ≡ ruling self.now figures.now };
 
-    ghost direction: { (f : Figures) → Follows (net_of NET f) (ruling f) };
-
-    ghost counting: { (f : Figures) → Heeds (net_of NET f) f (ruling f) };
-
-    ghost formed: { (f : Figures) → FromFormed f (ruling f) };
-
-    ghost mean: { (f : Figures) → BeyondMean f (ruling f) };
+    ghost keeps_laws: { (r : Self) (f : Figures) → KeepsLaws NET f (ruling r f) };
 }

@@ -1,8 +1,7 @@
 // The five rulebooks: four Nordic design options and the Finnish edition.
-ghost use Rattle.figures.specs.Components.{side_in};
 ghost use Rattle.pricing.specs.declared.ruling.Net.TheVariants.{Local, Zone};
 ghost use Rattle.pricing.specs.Rulings.{combined_all, combined_automatic, finnish, max_min, weighted_average, mean_price, automatic_or_manual, mean_or_manual, extreme_counting, finnish_price};
-ghost use Rattle.pricing.specs.Lawful.{follows, heeds, mean_lawful, from_formed, beyond_mean, automatic_lawful, combined_lawful, extreme_lawful, finnish_lawful};
+ghost use Rattle.pricing.specs.Lawful.{rulebook_keeps, mean_lawful, automatic_lawful, combined_lawful, extreme_lawful, finnish_lawful};
 
 use crate::rulebook::Rulebook;
 use crate::ruling::{Net, Priced, Ruling};
@@ -23,21 +22,15 @@ impl Rulebook for WeightedAverage {
 
     ghost NET = { Local };
 
-    ghost ruling = { weighted_average };
-
-    ghost direction = { λ f. follows f.local_net (λ d. mean_price d (side_in d f)) };
-
-    ghost counting = { λ f. heeds mean_price mean_lawful f.local_net f };
-
-    ghost formed = { λ f. from_formed mean_price mean_lawful f.local_net f };
-
-    ghost mean = { λ f. beyond_mean mean_price mean_lawful f.local_net f };
+    ghost ruling = { λ r. weighted_average };
 
     fn decide(&self, figures: &Figures) -> Ruling {
-        let direction = Direction::of_net(figures.local_net)?;
+        let direction = Direction::of_net(Self::NET.of(figures))?;
         let price = figures.weighted_mean(direction)?;
         Some(Priced { direction, price })
     }
+
+    ghost keeps_laws = { λ r. rulebook_keeps Local mean_price mean_lawful };
 }
 
 /// Code 2: the first combined option, the extreme of the automatic mean and the counting manual prices.
@@ -53,22 +46,16 @@ impl Rulebook for CombinedAutomatic {
 
     ghost NET = { Local };
 
-    ghost ruling = { combined_automatic };
-
-    ghost direction = { λ f. follows f.local_net (λ d. automatic_or_manual d (side_in d f)) };
-
-    ghost counting = { λ f. heeds automatic_or_manual automatic_lawful f.local_net f };
-
-    ghost formed = { λ f. from_formed automatic_or_manual automatic_lawful f.local_net f };
-
-    ghost mean = { λ f. beyond_mean automatic_or_manual automatic_lawful f.local_net f };
+    ghost ruling = { λ r. combined_automatic };
 
     fn decide(&self, figures: &Figures) -> Ruling {
-        let direction = Direction::of_net(figures.local_net)?;
+        let direction = Direction::of_net(Self::NET.of(figures))?;
         let manual = figures.counting_manual(direction);
         let price = extreme_of(direction, figures.automatic_mean(direction), manual)?;
         Some(Priced { direction, price })
     }
+
+    ghost keeps_laws = { λ r. rulebook_keeps Local automatic_or_manual automatic_lawful };
 }
 
 /// Code 3: the second combined option, the extreme of the weighted mean and the counting manual prices.
@@ -84,22 +71,16 @@ impl Rulebook for CombinedAll {
 
     ghost NET = { Local };
 
-    ghost ruling = { combined_all };
-
-    ghost direction = { λ f. follows f.local_net (λ d. mean_or_manual d (side_in d f)) };
-
-    ghost counting = { λ f. heeds mean_or_manual combined_lawful f.local_net f };
-
-    ghost formed = { λ f. from_formed mean_or_manual combined_lawful f.local_net f };
-
-    ghost mean = { λ f. beyond_mean mean_or_manual combined_lawful f.local_net f };
+    ghost ruling = { λ r. combined_all };
 
     fn decide(&self, figures: &Figures) -> Ruling {
-        let direction = Direction::of_net(figures.local_net)?;
+        let direction = Direction::of_net(Self::NET.of(figures))?;
         let manual = figures.counting_manual(direction);
         let price = extreme_of(direction, figures.weighted_mean(direction), manual)?;
         Some(Priced { direction, price })
     }
+
+    ghost keeps_laws = { λ r. rulebook_keeps Local mean_or_manual combined_lawful };
 }
 
 /// Code 4: the extreme of all counting prices.
@@ -115,22 +96,16 @@ impl Rulebook for MaxMin {
 
     ghost NET = { Local };
 
-    ghost ruling = { max_min };
-
-    ghost direction = { λ f. follows f.local_net (λ d. extreme_counting d (side_in d f)) };
-
-    ghost counting = { λ f. heeds extreme_counting extreme_lawful f.local_net f };
-
-    ghost formed = { λ f. from_formed extreme_counting extreme_lawful f.local_net f };
-
-    ghost mean = { λ f. beyond_mean extreme_counting extreme_lawful f.local_net f };
+    ghost ruling = { λ r. max_min };
 
     fn decide(&self, figures: &Figures) -> Ruling {
-        let direction = Direction::of_net(figures.local_net)?;
+        let direction = Direction::of_net(Self::NET.of(figures))?;
         let manual = figures.counting_manual(direction);
         let price = extreme_of(direction, figures.counting_cycles(direction), manual)?;
         Some(Priced { direction, price })
     }
+
+    ghost keeps_laws = { λ r. rulebook_keeps Local extreme_counting extreme_lawful };
 }
 
 /// Code 5: the Finnish edition, by the zone's net.
@@ -146,22 +121,28 @@ impl Rulebook for Finnish {
 
     ghost NET = { Zone };
 
-    ghost ruling = { finnish };
-
-    ghost direction = { λ f. follows f.zone_net.kw (λ d. finnish_price d (side_in d f)) };
-
-    ghost counting = { λ f. heeds finnish_price finnish_lawful f.zone_net.kw f };
-
-    ghost formed = { λ f. from_formed finnish_price finnish_lawful f.zone_net.kw f };
-
-    ghost mean = { λ f. beyond_mean finnish_price finnish_lawful f.zone_net.kw f };
+    ghost ruling = { λ r. finnish };
 
     fn decide(&self, figures: &Figures) -> Ruling {
-        let direction = Direction::of_net(figures.zone_net.kw())?;
-        let price = match figures.formed_manual(direction) {
-            _ if figures.manual_counts(direction) => figures.weighted_mean(direction)?,
-            formed => extreme_of(direction, figures.automatic_mean(direction), formed)?,
-        };
-        Some(Priced { direction, price })
+        match Direction::of_net(Self::NET.of(figures)) {
+            Some(direction) if figures.manual_counts(direction) => {
+                let mean = figures.weighted_mean(direction)?;
+                Some(Priced {
+                    direction,
+                    price: mean,
+                })
+            }
+            Some(direction) => {
+                let manual = figures.formed_manual(direction);
+                let extreme = extreme_of(direction, figures.automatic_mean(direction), manual)?;
+                Some(Priced {
+                    direction,
+                    price: extreme,
+                })
+            }
+            None => None,
+        }
     }
+
+    ghost keeps_laws = { λ r. rulebook_keeps Zone finnish_price finnish_lawful };
 }

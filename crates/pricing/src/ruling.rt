@@ -1,4 +1,8 @@
 // What a rulebook decides.
+ghost use Rattle.std.specs.Prelude.{◌≡◌};
+ghost use Rattle.pricing.specs.Outcomes.{net_of};
+
+use figures::quarter_figures::Figures;
 use source::direction::Direction;
 use units::ratio::Ratio;
 
@@ -17,4 +21,16 @@ pub type Ruling = Option<Priced>;
 pub enum Net {
     Local,
     Zone,
+}
+
+impl Net {
+    /// This net of a quarter, in kW.
+    pub fn of(self, figures: &Figures) -> i64
+        ensures { result ≡ net_of self figures.now }
+    {
+        match self {
+            Net::Local => figures.local_net,
+            Net::Zone => figures.zone_net.kw(),
+        }
+    }
 }

@@ -1,8 +1,7 @@
 // A rulebook from outside the library: the weighted mean, by the zone's net.
-ghost use Rattle.pricing.specs.Rulings.{by_zone, mean_price};
+ghost use Rattle.pricing.specs.Rulings.{by_net, mean_price};
 ghost use Rattle.pricing.specs.declared.ruling.Net.TheVariants.{Zone};
-ghost use Rattle.figures.specs.Components.{side_in};
-ghost use Rattle.pricing.specs.Lawful.{follows, heeds, mean_lawful, from_formed, beyond_mean};
+ghost use Rattle.pricing.specs.Lawful.{mean_lawful, rulebook_keeps};
 
 use figures::quarter_figures::Figures;
 use pricing::rulebook::Rulebook;
@@ -21,19 +20,13 @@ impl Rulebook for ZoneAverage {
 
     ghost NET = { Zone };
 
-    ghost ruling = { λ f. by_zone mean_price f };
-
-    ghost direction = { λ f. follows f.zone_net.kw (λ d. mean_price d (side_in d f)) };
-
-    ghost counting = { λ f. heeds mean_price mean_lawful f.zone_net.kw f };
-
-    ghost formed = { λ f. from_formed mean_price mean_lawful f.zone_net.kw f };
-
-    ghost mean = { λ f. beyond_mean mean_price mean_lawful f.zone_net.kw f };
+    ghost ruling = { λ r. by_net Zone mean_price };
 
     fn decide(&self, figures: &Figures) -> Ruling {
-        let direction = Direction::of_net(figures.zone_net.kw())?;
+        let direction = Direction::of_net(Self::NET.of(figures))?;
         let price = figures.weighted_mean(direction)?;
         Some(Priced { direction, price })
     }
+
+    ghost keeps_laws = { λ r. rulebook_keeps Zone mean_price mean_lawful };
 }

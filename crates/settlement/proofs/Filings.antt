@@ -4,7 +4,8 @@ use borrow.Author.Differences.{ints}
 use Rattle.figures.specs.Gathering.{Gives}
 use Rattle.figures.specs.declared.quarter_figures.Figures.{Figures}
 use Rattle.pricing.proofs.Bounding.{quote_bounded}
-use Rattle.pricing.specs.Bounds.{Bounded, BoundedBy, KeepsLaws}
+use Rattle.pricing.specs.Bounds.{Bounded, BoundedBy}
+use Rattle.pricing.specs.Laws.{KeepsLaws}
 use Rattle.pricing.specs.Outcomes.{Outcome, avoided, priced as ruled}
 use Rattle.pricing.specs.Quotes.{Quoted, Quotes, standing}
 use Rattle.pricing.specs.declared.quote.Quote.{Quote}

@@ -74,7 +74,7 @@ impl Book {
         source: &S,
         rulebook: &R,
     ) -> Result<Quarter, BookFault>
-        ensures { Whole (priced period (S.PriceSource.means source.now) (record { code = R.Rulebook.CODE; net = R.Rulebook.NET; ruling = R.Rulebook.ruling }) result) self.old self.new }
+        ensures { Whole (priced period (S.PriceSource.means source.now) (record { code = R.Rulebook.CODE; net = R.Rulebook.NET; ruling = R.Rulebook.ruling rulebook.now }) result) self.old self.new }
     {
         self.has_period(period)?;
         let answer = quote_source(source, rulebook);

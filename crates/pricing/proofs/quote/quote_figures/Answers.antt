@@ -1,15 +1,8 @@
 use Rattle.std.proofs.Common.{arith, Ok, ap, ◌∙◌, subst}
 use Rattle.units.specs.Exact.{exact_of}
-use Rattle.pricing.specs.Bounds.{KeepsLaws}
 use Rattle.pricing.specs.Quotes.{Quotes}
 use Rattle.pricing.proofs.Bounding.{quote_bounded}
-use Rattle.figures.specs.declared.quarter_figures.Figures.{Figures}
-use Rattle.pricing.proofs.quote.quote_figures.Given as given
 use Rattle.pricing.proofs.quote.quote_figures.Goals as goal
-
--- the laws, as every rulebook under the bound owes them
-lawful : (g : given.Over) (f : Figures) → KeepsLaws g.R.Rulebook.NET f (g.R.Rulebook.ruling f)
-lawful g f = record { direction = g.met.R.Rulebook.direction f; counting = g.met.R.Rulebook.counting f; formed = g.met.R.Rulebook.formed f; mean = g.met.R.Rulebook.mean f }
 
 pub returns-clause-value : goal.returns-clause-value
 returns-clause-value g c =
@@ -25,5 +18,7 @@ returns-clause-value g c =
 
 pub returns-clause-bounds_kept : goal.returns-clause-bounds_kept
 returns-clause-bounds_kept g c =
+    let f = c.args.figures.now in
+    let r = c.args.rulebook.now in
     let n = c.nearest_cent.ensures in
-    grind (arith, quote_bounded g.R.Rulebook.NET c.args.figures.now (g.R.Rulebook.ruling c.args.figures.now) c.in-Some.priced.direction (exact_of c.in-Some.priced.price) c.nearest_cent.result (lawful g c.args.figures.now) c.in-Some.ensures n.nearest n.between)
+    grind (arith, quote_bounded g.R.Rulebook.NET f (g.R.Rulebook.ruling r f) c.in-Some.priced.direction (exact_of c.in-Some.priced.price) c.nearest_cent.result (g.met.R.Rulebook.keeps_laws r f) c.in-Some.ensures n.nearest n.between)
