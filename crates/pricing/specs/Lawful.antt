@@ -93,7 +93,7 @@ rulebook_keeps net price lawful f =
     }
 
 -- ---- what the pricings share
-quotient_exists : (x : ℤ) (v : ℕ) → 1 ≤ v → is_some (quotient x v) ≡ true
+pub quotient_exists : (x : ℤ) (v : ℕ) → 1 ≤ v → is_some (quotient x v) ≡ true
 quotient_exists x v h = ap is_some (cond-true (nat_lt 0 v) (Some (record { n = x; d = v })) None (lt-ltb 0 v h))
 
 mapped_exists : {X : Type 0} (g : X → Exact) (o : Option X) → is_some o ≡ true → is_some (option_map g o) ≡ true
@@ -161,7 +161,7 @@ nothing_counts s h e =
     (no_value _ s.formed s.cycles.volume s.cycles.value s.cycles.span h.0 (omega arith))
     (idle s.scheduled (omega arith)) (idle s.direct_up (omega arith)) (idle s.direct_down (omega arith))
 
-mean_covers : (d : Direction) (s : Side) (r : Exact) → Sound s → Tops d (weighted_mean s) r → Covers d r (value s) (volume s)
+pub mean_covers : (d : Direction) (s : Side) (r : Exact) → Sound s → Tops d (weighted_mean s) r → Covers d r (value s) (volume s)
 mean_covers d s r h t = covers_quotient d r (value s) (volume s) (nothing_counts s h) t
 
 -- ---- the table

@@ -34,11 +34,11 @@ le_true x y e = record { le = subst T (sym e) tt }
 le_false : (x y : ℤ) → int_le x y ≡ false → y ≤ℤ x
 le_false x y e = grind (arith, ints)
 
-reach_true : (d : Direction) (a b : Exact) → reaches d a b ≡ true → Reach d a b
+pub reach_true : (d : Direction) (a b : Exact) → reaches d a b ≡ true → Reach d a b
 reach_true Up a b e = le_true _ _ e
 reach_true Down a b e = le_true _ _ e
 
-reach_false : (d : Direction) (a b : Exact) → reaches d a b ≡ false → Reach d b a
+pub reach_false : (d : Direction) (a b : Exact) → reaches d a b ≡ false → Reach d b a
 reach_false Up a b e = le_false _ _ e
 reach_false Down a b e = le_false _ _ e
 

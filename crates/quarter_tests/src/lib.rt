@@ -5,6 +5,6 @@
 mod bytes;
 #[cfg(test)]
 mod quarters;
+mod reference_price;
 #[cfg(test)]
 mod refusals;
-mod zone_average;

@@ -1,11 +1,13 @@
 // Quarters worked by hand.
 use crate::bytes::Bytes;
 use crate::bytes::Formed::{Down, Up};
-use crate::zone_average::ZoneAverage;
+use crate::reference_price::Referenced;
 use pricing::quote::quote_source;
 use sheet::sheet::Sheet;
 use std::alloc::{AllocError, Global};
 use std::test::Fail;
+use units::price::Price;
+use units::quantity::Quantity;
 
 #[test]
 fn three_price_levels(rt: HostRuntime) -> Result<(), Fail> {
@@ -108,11 +110,17 @@ fn down_quarter(rt: HostRuntime) -> Result<(), Fail> {
     Ok(())
 }
 
-// A rulebook from outside is quoted as the library's own are.
+// A rulebook from outside is quoted as the library's own are, and by the price that it holds. The weighted mean is 64.29
+// and the highest price formed 100.00.
 #[test]
 fn own_rulebook(rt: HostRuntime) -> Result<(), Fail> {
     let bytes = first_quarter(rt.alloc())?;
-    let quote = quote_source(&Sheet::read(bytes.sheet.as_slice()), &ZoneAverage)?;
-    assert!(rt; quote.code == 31 && quote.price.cents() == 6_429);
+    let sheet = Sheet::read(bytes.sheet.as_slice());
+    for (reference, cents) in [(1_000, 6_429), (8_000, 8_000), (15_000, 10_000)] {
+        let reference = Price::new(reference)?;
+        let quote = quote_source(&sheet, &Referenced { reference })?;
+        assert_eq!(rt; quote.code, 31);
+        assert_eq!(rt; quote.price.cents(), cents);
+    }
     Ok(())
 }
