@@ -1,6 +1,10 @@
 // All lines of one quarter: five quotes, or the refusal of its sheet.
-ghost use Rattle.std.specs.Prelude.{◌≡◌, Some};
+ghost use Rattle.std.specs.Prelude.{◌≡◌, Some, Err};
+ghost use Rattle.lines.specs.Answers.{Answered, AnsweredBy, FiveBy, QuotedOf};
 ghost use Rattle.lines.specs.Quarters.{Printed, five_outcomes, five_refusals, five_text, lines_text, printed};
+ghost use Rattle.lines.specs.declared.quarter_lines.QuarterLines.{QuarterLines};
+ghost use Rattle.pricing.specs.declared.fault.QuoteFault.TheVariants.{Unreported};
+ghost use Rattle.sheet.specs.Sheets.{first_fault, sheet_meaning};
 
 use crate::line::{Line, line_of};
 use figures::fault::UnreportedSlot;
@@ -64,7 +68,8 @@ impl fmt::Display for QuarterLines {
 }
 
 fn quoted(figures: &Figures) -> FiveLines
-    ensures { five_text result ≡ five_outcomes figures.now }
+    ensures answers { FiveBy (QuotedOf figures.now) result }
+    ensures text { five_text result ≡ five_outcomes figures.now }
 {
     FiveLines {
         weighted_average: line_of(figures, &WeightedAverage),
@@ -76,7 +81,8 @@ fn quoted(figures: &Figures) -> FiveLines
 }
 
 fn unreported(slot: UnreportedSlot) -> FiveLines
-    ensures { five_text result ≡ five_refusals 7 }
+    ensures answers { FiveBy (λ code ruling answer. answer ≡ Err (Unreported slot)) result }
+    ensures text { five_text result ≡ five_refusals 7 }
 {
     let line = |code| Line {
         code,
@@ -93,7 +99,8 @@ fn unreported(slot: UnreportedSlot) -> FiveLines
 
 // It is decoded once, and its figures are worked out once.
 fn five_lines_of(bytes: &[u8]) -> Result<FiveLines, SheetFault>
-    ensures { Printed bytes.now (printed result) }
+    ensures answers { AnsweredBy (first_fault bytes.now) (sheet_meaning bytes.now) result }
+    ensures text { Printed bytes.now (printed result) }
 {
     let sheet = Sheet::read(bytes);
     sheet.check()?;
@@ -105,7 +112,9 @@ fn five_lines_of(bytes: &[u8]) -> Result<FiveLines, SheetFault>
 
 /// The lines of a sheet of any bytes.
 pub fn lines_of(bytes: &[u8]) -> QuarterLines
-    ensures { Printed bytes.now (lines_text result) }
+    ensures answer { Answered bytes.now result }
+    ensures only_answer { (l : QuarterLines) → Answered bytes.now l → l ≡ result }
+    ensures text { Printed bytes.now (lines_text result) }
 {
     QuarterLines {
         answer: five_lines_of(bytes),

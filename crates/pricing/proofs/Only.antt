@@ -33,7 +33,7 @@ only_first : (m : Slots) (j k : ℕ) → FirstUnreported m j → FirstUnreported
 only_first m j k p q = grind (arith, p.before k, q.before j)
 
 -- one outcome has one answer
-only_answer : (code : ℕ) (o : Outcome) (v : Option Price) (a b : Answer) → Quotes code o v a → Quotes code o v b → a ≡ b
+pub only_answer : (code : ℕ) (o : Outcome) (v : Option Price) (a b : Answer) → Quotes code o v a → Quotes code o v b → a ≡ b
 only_answer code (priced d q) v a b s t = grind (arith, price_same s.price t.price)
 only_answer code avoided (Some p) a b s t = cc
 only_answer code avoided None a b s t = cc

@@ -57,6 +57,7 @@ impl fmt::Display for QuoteDirection {
 /// The quote of figures that were worked out before.
 pub fn quote_figures<R: Rulebook>(figures: &Figures, rulebook: &R) -> Result<Quote, QuoteFault>
     ensures value { Quotes R.Rulebook.CODE (R.Rulebook.ruling rulebook.now figures.now) figures.now.avoided result }
+    ensures only_answer { (a : Answer) → Quotes R.Rulebook.CODE (R.Rulebook.ruling rulebook.now figures.now) figures.now.avoided a → a ≡ result }
     ensures laws_kept { KeepsLaws R.Rulebook.NET figures.now (R.Rulebook.ruling rulebook.now figures.now) }
     ensures bounds_kept { QuoteBounded figures.now result }
 {

@@ -2,6 +2,7 @@ use Rattle.std.proofs.Common.{arith, Ok, ap, ◌∙◌, subst}
 use Rattle.units.specs.Exact.{exact_of}
 use Rattle.pricing.specs.Quotes.{Quotes}
 use Rattle.pricing.proofs.Bounding.{quote_bounded}
+use Rattle.pricing.proofs.Only.{only_answer}
 use Rattle.pricing.proofs.quote.quote_figures.Goals as goal
 
 pub returns-clause-value : goal.returns-clause-value
@@ -15,6 +16,9 @@ returns-clause-value g c =
           ∙ ap (λ d. Ok (record { code = g.R.Rulebook.CODE; direction = d; price = c.nearest_cent.result })) c.from.ensures;
       at = c.nearest_cent.ensures.value;
     })
+
+pub returns-clause-only_answer : goal.returns-clause-only_answer
+returns-clause-only_answer g c = λ a h. only_answer g.R.Rulebook.CODE (g.R.Rulebook.ruling c.args.rulebook.now c.args.figures.now) c.args.figures.now.avoided a _ h (returns-clause-value g c)
 
 pub returns-clause-bounds_kept : goal.returns-clause-bounds_kept
 returns-clause-bounds_kept g c =
