@@ -38,7 +38,7 @@ one_answer (Ok u) m (Ok a) (Err f) p q = absurd q
 one_answer (Ok u) m (Err e) b p q = absurd p
 
 pub only_lines : (s : List ℕ) (a b : QuarterLines) → Answered s a → Answered s b → a ≡ b
-only_lines s a b p q = grind (arith, one_answer (first_fault s) (sheet_meaning s) a.answer b.answer p q)
+only_lines s a b p q = grind (arith, one_answer (first_fault s) (sheet_meaning s) a.answer b.answer p.answer q.answer)
 
 -- ---- from the figures that a source gives, and from its first unreported slot, to the source
 from_line : (m : Meaning) (f : Figures) (code : ℕ) (ruling : Figures → Outcome) (l : Line) → Gives m f → LineBy (QuotedOf f) code ruling l → LineBy (Quoted m) code ruling l

@@ -28,11 +28,12 @@ pub record FiveBy (answers : ℕ → (Figures → Outcome) → Answer → Type 0
 abbrev pub QuotedOf : Figures → ℕ → (Figures → Outcome) → Answer → Type 0
 QuotedOf f code ruling a = Quotes code (ruling f) f.avoided a
 
--- a sheet's first fault; without one, under each code the quote of what the sheet means
+-- a fault; without one, under each code the quote of what a source means
 abbrev pub AnsweredBy : Result (Unit {0}) SheetFault → Meaning → Result FiveLines SheetFault → Type 0
 AnsweredBy (Err f) m a = a ≡ Err f
 AnsweredBy (Ok _) m (Ok l) = FiveBy (Quoted m) l
 AnsweredBy (Ok _) m (Err f) = ⊥
 
-abbrev pub Answered : List ℕ → QuarterLines → Type 0
-Answered s l = AnsweredBy (first_fault s) (sheet_meaning s) l.answer
+-- of a sheet: its first fault; without one, under each code the quote of what the sheet tells
+pub record Answered (s : List ℕ) (l : QuarterLines) : Type 0 where
+  pub answer : AnsweredBy (first_fault s) (sheet_meaning s) l.answer

@@ -1,10 +1,9 @@
 // All lines of one quarter: five quotes, or the refusal of its sheet.
 ghost use Rattle.std.specs.Prelude.{◌≡◌, Some, Err};
-ghost use Rattle.lines.specs.Answers.{Answered, AnsweredBy, FiveBy, QuotedOf};
+ghost use Rattle.lines.specs.Answers.{Answered, FiveBy, QuotedOf};
 ghost use Rattle.lines.specs.Quarters.{Printed, five_outcomes, five_refusals, five_text, lines_text, printed};
 ghost use Rattle.lines.specs.declared.quarter_lines.QuarterLines.{QuarterLines};
 ghost use Rattle.pricing.specs.declared.fault.QuoteFault.TheVariants.{Unreported};
-ghost use Rattle.sheet.specs.Sheets.{first_fault, sheet_meaning};
 
 use crate::line::{Line, line_of};
 use figures::fault::UnreportedSlot;
@@ -99,7 +98,8 @@ fn unreported(slot: UnreportedSlot) -> FiveLines
 
 // It is decoded once, and its figures are worked out once.
 fn five_lines_of(bytes: &[u8]) -> Result<FiveLines, SheetFault>
-    ensures answers { AnsweredBy (first_fault bytes.now) (sheet_meaning bytes.now) result }
+    ensures answer { Answered bytes.now (record { answer = result }) }
+    ensures only_answer { (l : QuarterLines) → Answered bytes.now l → l ≡ record { answer = result } }
     ensures text { Printed bytes.now (printed result) }
 {
     let sheet = Sheet::read(bytes);
