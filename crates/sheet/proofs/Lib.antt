@@ -1,6 +1,7 @@
 pub mod Firsts
+pub mod Handing
 pub mod Leads
 pub mod Opening
+pub mod Parts
 pub mod Places
 pub mod Telling
-pub mod Views

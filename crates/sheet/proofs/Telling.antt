@@ -1,49 +1,102 @@
--- The slots that a reader has told so far, and what they are when it ends.
-use Rattle.std.proofs.Common.{◌≡◌, ℕ, suc, ◌+◌, ◌-◌, ◌<◌, ◌≤◌, List, [], length, take, drop, set, replicate, Some, None, Ok, Err, ap, append_assoc, append-nil, arith, take-append-drop, take_all, drop-set-lt}
-use Rattle.std.proofs.lemmas.List.{drop-drop, drop-replicate, take_more_set}
-use Rattle.std.proofs.lemmas.Grind.{common_steps}
+-- What the records that are handed out tell, and how their reading ends.
+use Rattle.std.proofs.Common.{◌≡◌, ℕ, zero, suc, ◌+◌, ◌-◌, ◌<◌, ◌≤◌, List, [], ◌∷◌, ◌++◌, length, drop, take, set, replicate, map, Ok, Err, Result, None, ap, ◌∙◌, refl, arith, length-drop, length-append, length-set, length-take, append_assoc, append-nil, take-append-drop, drop-set-lt}
 use Rattle.std.proofs.lemmas.Bool.Decides.{nat_tests}
+use lib.ListN.{length-replicate}
+use Rattle.std.proofs.lemmas.List.{drop-drop, drop-replicate, take_more_set}
+use Rattle.std.proofs.lemmas.List.Edits.{length-between}
 use Rattle.source.specs.Slots.{Slot}
-use Rattle.sheet.specs.declared.fault.RecordFault.{RecordFault}
+use Rattle.sheet.specs.declared.fault.SheetFault.{SheetFault}
+use Rattle.sheet.specs.declared.fault.Spot.{Spot}
+use Rattle.sheet.specs.Readers.{Handed, View, handed, in_sheet, record_bytes, then_after, view_of, viewed}
 use Rattle.sheet.specs.Records.{slot_told, Told}
-use Rattle.sheet.specs.Rows.{row, step, prefixed, spot_at}
-use Rattle.sheet.specs.Readers.{Standing, View, found, answer, after}
-use Rattle.sheet.specs.Sheets.{slots_from}
+use Rattle.sheet.specs.Rows.{row, Row, spot_at, step}
+use Rattle.sheet.specs.Sheets.{closed}
+use Rattle.sheet.proofs.Places.{FitsTold, told_fits}
 
--- the slots before the standing are told in out, and from it on they are unreported
-pub record Sofar (s : List ℕ) (start : ℕ) (x : Standing) (out : List Slot) : Type 0 where
-  pub bytes : x.bytes ≡ s
-  pub few : x.slot ≤ 228
+-- the records that are handed out before the first fault
+abbrev pub records : List Handed → List View
+records [] = []
+records (Ok r ∷ xs) = r ∷ records xs
+records (Err f ∷ xs) = []
+
+-- what they tell
+abbrev pub told : List Handed → List Slot
+told xs = map (λ r. r.tells) (records xs)
+
+-- how the reading ends
+abbrev pub ending : List Handed → Result (Unit {0}) SheetFault
+ending [] = Ok tt
+ending (Ok r ∷ xs) = ending xs
+ending (Err f ∷ xs) = Err f
+
+-- a record has the bytes that its numbers take, and its lead byte
+pub bytes_long : (p : Spot) (s : List ℕ) (v : Slot) (n : ℕ) → 1 ≤ n → n ≤ length s → length (record_bytes (view_of p s v n)) ≡ n
+bytes_long p s v n h l = grind (arith, length-between s 1 n)
+
+-- xs tell the slots of a row, k of them, and end as it does
+pub record Tells (k : ℕ) (s : List ℕ) (xs : List Handed) (r : Row) : Type 0 where
+  pub few : length (told xs) ≤ k
+  pub slots : r.0 ≡ told xs ++ replicate (k - length (told xs)) None
+  pub ends : closed s r.1 ≡ ending xs
+
+tells_more : (k : ℕ) (s : List ℕ) (i at : ℕ) (t : Told) → at ≤ length s → FitsTold (spot_at at i) (length (drop at s)) t
+    → ((n : ℕ) → at + n ≤ length s → Tells k s (handed k s (i + 1) (at + n)) (row k s (i + 1) (at + n)))
+    → Tells (suc k) s (then_after (in_sheet (viewed (spot_at at i) (drop at s) t)) (λ n. handed k s (i + 1) (at + n))) (step k t (λ n. row k s (i + 1) (at + n)))
+tells_more k s i at (Ok (v, n)) h f more =
+    let e : length (record_bytes (view_of (spot_at at i) (drop at s) v n)) ≡ n = bytes_long (spot_at at i) (drop at s) v n f.0 f.1 in
+    let rest : Tells k s (handed k s (i + 1) (at + n)) (row k s (i + 1) (at + n)) = more n (omega (arith, length-drop at s)) in
+    rw e (record {
+      few = omega (arith, rest.few);
+      slots = grind (arith, rest.slots);
+      ends = rest.ends;
+    })
+tells_more k s i at (Err f) h g more = record {
+  few = omega arith;
+  slots = let n : suc k ≡ suc k - 0 = omega arith in ap (λ (j : ℕ). replicate {A = Slot} j None) n;
+  ends = refl;
+}
+
+pub all_told : (k : ℕ) (s : List ℕ) (i at : ℕ) → at ≤ length s → Tells k s (handed k s i at) (row k s i at)
+unfolding handed row
+all_told zero s i at h = grind (arith, nat_tests)
+all_told (suc k) s i at h =
+    tells_more k s i at (slot_told (spot_at at i) (drop at s)) h (told_fits (spot_at at i) (drop at s)) (λ n l. all_told k s (i + 1) (at + n) l)
+
+-- of what is handed out in all, some is left, and the k records before it are told in out
+pub record Sofar (all left : List Handed) (k : ℕ) (out : List Slot) : Type 0 where
+  pub few : length (told all) ≤ 228
   pub size : length out ≡ 228
-  pub rest : drop x.slot out ≡ replicate (228 - x.slot) None
-  pub so : slots_from s start ≡ prefixed (take x.slot out) (row (228 - x.slot) x.bytes x.slot x.at)
+  pub within : k ≤ 228
+  pub slots : told all ≡ take k out ++ told left
+  pub rest : drop k out ≡ replicate (228 - k) None
+  pub ends : ending all ≡ ending left
 
-row_more : (k j : ℕ) (s : List ℕ) (i at : ℕ) → j ≡ suc k → row j s i at ≡ step k (slot_told (spot_at at i) (drop at s)) (λ n. row k s (i + 1) (at + n))
-unfolding row
-row_more k j s i at e = ap (λ j. row j s i at) e
+pub all_left : (xs : List Handed) (out : List Slot) → length (told xs) ≤ 228 → out ≡ replicate 228 None → Sofar xs xs 0 out
+all_left xs out few e = grind (arith, length-replicate {A = Slot})
 
-row_none : (j : ℕ) (s : List ℕ) (i at : ℕ) → j ≡ 0 → row j s i at ≡ ([], Ok at)
-unfolding row
-row_none j s i at e = ap (λ j. row j s i at) e
+pub room : {all left : List Handed} {k : ℕ} {out : List Slot} (r : View) → Sofar all (Ok r ∷ left) k out → k < 228
+room {all} {left} {k} {out} r f =
+    let e : length (told all) ≡ length (take k out ++ told (Ok r ∷ left)) = ap length f.slots in
+    omega (arith, e, length-append (take k out) (told (Ok r ∷ left)), length-take {A = Slot}, f.few, f.size, f.within)
 
-module _ {s : List ℕ} {start : ℕ} {x : Standing} {out : List Slot} (f : Sofar s start x out) where
-  -- the record at which the reader stands, and the slots after it
-  opened : (t : Told) → x.slot < 228 → found x ≡ t
-      → slots_from s start ≡ prefixed (take x.slot out) (step (228 - (x.slot + 1)) t (λ n. row (228 - (x.slot + 1)) x.bytes (x.slot + 1) (x.at + n)))
-  unfolding found
-  opened t h e = grind (arith, row_more (228 - (x.slot + 1)) (228 - x.slot) x.bytes x.slot x.at)
+-- one record more
+pub more : {all before left : List Handed} {k : ℕ} {out : List Slot} (r : View) (v : Slot) → before ≡ Ok r ∷ left → v ≡ r.tells
+    → Sofar all before k out → Sofar all left (k + 1) (set out k v)
+more {all} {before} {left} {k} {out} r v e w f =
+    let g : Sofar all (Ok r ∷ left) k out = rw e at f in
+    let here : k < 228 = room r g in
+    record {
+      few = g.few;
+      size = length-set out k v ∙ g.size;
+      within = omega arith;
+      slots = grind (arith, g.slots, g.size, take_more_set, append_assoc);
+      rest = grind (arith, g.rest, drop-set-lt, drop-drop 1 k out, drop-replicate {X = Slot} 1 (228 - k));
+      ends = g.ends;
+    }
 
-  rest_more : (v : Slot) (j : ℕ) → x.slot < 228 → j ≡ x.slot + 1 → drop j (set out (j - 1) v) ≡ replicate (228 - j) None
-  rest_more v j h e = grind (arith, drop-set-lt, drop-drop 1 x.slot out, drop-replicate {X = Slot} 1 (228 - x.slot), f.rest)
-
-  -- a record was shown
-  pub shown_more : (v : View) (y : Standing) → Ok (Some v) ≡ answer x → y ≡ after x → Sofar s start y (set out (y.slot - 1) y.told)
-  shown_more v y a m = grind (arith, nat_tests, common_steps, opened (found x), take_more_set, append_assoc, rest_more)
-
-  pub told_fault : (z : RecordFault) → x.slot < 228 → found x ≡ Err z → slots_from s start ≡ (out, Err z)
-  told_fault z h e =
-      let l : suc (228 - (x.slot + 1)) ≡ 228 - x.slot = omega arith in
-      grind (arith, common_steps, opened (Err z), take-append-drop)
-
-  pub told_all : 228 ≤ x.slot → slots_from s start ≡ (out, Ok x.at)
-  told_all h = grind (arith, common_steps, row_none, take_all, append-nil)
+-- the slots that no record told stay unreported
+pub filled : {all left : List Handed} {k : ℕ} {out : List Slot} → records left ≡ [] → Sofar all left k out → out ≡ told all ++ replicate (228 - length (told all)) None
+filled {all} {left} {k} {out} e f =
+    let slots : told all ≡ take k out = grind (arith, f.slots, e, append-nil) in
+    let count : length (told all) ≡ k = omega (arith, ap length slots, length-take {A = Slot}, f.size, f.within) in
+    rw (count, slots, ← f.rest, take-append-drop) refl

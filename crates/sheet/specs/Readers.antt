@@ -1,28 +1,27 @@
--- A reader that goes through the records of a sheet.
-use Rattle.std.specs.Prelude.{ℕ, ◌+◌, min, cond, List, [], length, drop, Some, None, Ok, Err, Option, Result, nat_lt, slice_index}
+-- A reader that hands out the records of a sheet, one after another.
+use Rattle.std.specs.Prelude.{ℕ, zero, suc, ◌+◌, ◌-◌, List, [], ◌∷◌, length, drop, Some, None, Ok, Err, Option, Result, nat_lt, slice_index, if◌then◌else◌}
 use Rattle.std.specs.List.{between}
 use Rattle.source.specs.Slots.{Slot}
+use Rattle.units.specs.declared.demand.Demand.{Demand}
+use Rattle.units.specs.declared.price.Price.{Price}
+use Rattle.sheet.specs.declared.fault.RecordFault.{RecordFault}
 use Rattle.sheet.specs.declared.fault.SheetFault.{SheetFault}
 use Rattle.sheet.specs.declared.fault.SheetFault.TheVariants as sf
+use Rattle.sheet.specs.declared.fault.Spot.{Spot}
 use Rattle.sheet.specs.declared.reader.Reader.{Reader}
 use Rattle.sheet.specs.declared.slot_record.Record.{Record}
 use Rattle.sheet.specs.declared.slot_record.Record.TheVariants as rec
-use Rattle.sheet.specs.Records.{slot_told, Told}
+use Rattle.sheet.specs.Heads.{head_of, Headed}
+use Rattle.sheet.specs.Records.{reported_slot, slot_told, Told}
 use Rattle.sheet.specs.Rows.{spot_at}
 use Rattle.sheet.specs.Sheets.{closes}
 
--- a record as the sheet has it: its lead byte, the bytes after it, and their place
+-- a record as the sheet has it: the place of its lead byte, that byte, the bytes after it, and what it tells of its slot
 pub record View : Type 0 where
+  pub place : ℕ
   pub lead : ℕ
   pub body : List ℕ
-  pub place : ℕ
-
-abbrev pub seen : Record → View
-seen (rec.Unreported place) = record { lead = 0; body = []; place = place }
-seen (rec.Demand body place) = record { lead = 1; body = body.now; place = place }
-seen (rec.Up body place) = record { lead = 2; body = body.now; place = place }
-seen (rec.Down body place) = record { lead = 3; body = body.now; place = place }
-seen (rec.Both body place) = record { lead = 4; body = body.now; place = place }
+  pub tells : Slot
 
 -- the lead byte of a demand, by the prices with it
 abbrev pub by_prices : {X : Type 0} → Option X → Option X → ℕ
@@ -31,57 +30,81 @@ by_prices (Some u) None = 2
 by_prices None (Some v) = 3
 by_prices (Some u) (Some v) = 4
 
--- the record of what is told, by the prices formed
-abbrev pub view_of : Slot → List ℕ → ℕ → View
-view_of None body place = record { lead = 0; body = []; place = place }
-view_of (Some r) body place = record { lead = by_prices r.up r.down; body = body; place = place }
+-- a demand and the prices formed for it, told by a record
+abbrev pub reported_view : ℕ → List ℕ → Demand → Option Price → Option Price → View
+reported_view place body d u v = record { place = place; lead = by_prices u v; body = body; tells = reported_slot d u v }
 
--- the record of n bytes at the place at of the sheet s
-abbrev pub view_at : List ℕ → ℕ → ℕ → View
-view_at s at n = record { lead = slice_index s at; body = between (at + 1) (at + n) s; place = at + 1 }
+abbrev pub seen : Record → View
+seen (rec.Unreported place) = record { place = place; lead = 0; body = []; tells = None }
+seen (rec.Demand d body place) = reported_view place body.now d None None
+seen (rec.Up d u body place) = reported_view place body.now d (Some u) None
+seen (rec.Down d v body place) = reported_view place body.now d None (Some v)
+seen (rec.Both d u v body place) = reported_view place body.now d (Some u) (Some v)
 
--- where a reader stands: the next slot, the place of its record, and what the last one told
-pub record Standing : Type 0 where
-  pub bytes : List ℕ
-  pub at : ℕ
-  pub slot : ℕ
-  pub told : Slot
+-- all bytes of a record
+abbrev pub record_bytes : View → List ℕ
+record_bytes r = r.lead ∷ r.body
 
-abbrev pub standing : Reader → Standing
-standing r = record { bytes = r.sheet.now; at = r.at; slot = r.slot; told = r.told }
+abbrev pub record_seen : Result Record RecordFault → Result View RecordFault
+record_seen (Ok r) = Ok (seen r)
+record_seen (Err f) = Err f
 
--- before slot 0, whose record begins at the place at
-abbrev pub begins : List ℕ → ℕ → Standing
-begins s at = record { bytes = s; at = min at (length s); slot = 0; told = None }
+-- the record of n bytes at the front of s, which begins at p and tells v
+abbrev pub view_of : Spot → List ℕ → Slot → ℕ → View
+view_of p s v n = record { place = p.place; lead = slice_index s 0; body = between 1 n s; tells = v }
 
--- what the record tells at which the reader stands
-unfoldable pub found : Standing → Told
-found x = slot_told (spot_at x.at x.slot) (drop x.at x.bytes)
+abbrev pub viewed : Spot → List ℕ → Told → Result View RecordFault
+viewed p s (Ok g) = Ok (view_of p s g.0 g.1)
+viewed p s (Err f) = Err f
 
-abbrev pub Shown : Type 0
-Shown = Result (Option View) SheetFault
+-- the record at the front of s, which begins at p
+abbrev pub record_at : Spot → List ℕ → Result View RecordFault
+record_at p s = viewed p s (slot_told p s)
 
-abbrev pub record_shown : Standing → Told → Shown
-record_shown x (Ok g) = Ok (Some (view_at x.bytes x.at g.1))
-record_shown x (Err f) = Err (sf.Slot f)
+-- what a reader hands out: a record, or the fault at which the reading ends
+abbrev pub Handed : Type 0
+Handed = Result View SheetFault
 
-abbrev pub end_shown : Result (Unit {0}) SheetFault → Shown
-end_shown (Ok _) = Ok None
-end_shown (Err f) = Err f
+abbrev pub shown : Result Record SheetFault → Handed
+shown (Ok r) = Ok (seen r)
+shown (Err f) = Err f
 
--- the next record; after slot 227 nothing, or the fault that bytes are left
-abbrev pub answer : Standing → Shown
-answer x = cond (nat_lt x.slot 228) (record_shown x (found x)) (end_shown (closes x.bytes x.at))
+-- a fault in a record is the sheet's
+abbrev pub in_sheet : Result View RecordFault → Handed
+in_sheet (Ok r) = Ok r
+in_sheet (Err f) = Err (sf.Slot f)
 
-abbrev pub moved : Standing → Told → Standing
-moved x (Ok g) = record { bytes = x.bytes; at = x.at + g.1; slot = x.slot + 1; told = g.0 }
-moved x (Err f) = x
+-- what the sheet s has at the place at: the record of slot i, or after slot 227 the fault that bytes are left
+abbrev pub here : List ℕ → ℕ → ℕ → Handed
+here s i at = if nat_lt i 228 then in_sheet (record_at (spot_at at i) (drop at s)) else Err (sf.After at)
 
--- the reader goes past a record, and stays at a fault and after slot 227
-abbrev pub after : Standing → Standing
-after x = cond (nat_lt x.slot 228) (moved x (found x)) x
+-- a record, and what follows its bytes; or the fault alone
+abbrev pub then_after : Handed → (ℕ → List Handed) → List Handed
+then_after (Ok r) rest = Ok r ∷ rest (length (record_bytes r))
+then_after (Err f) rest = Err f ∷ []
 
-abbrev pub shown_of : Result (Option Record) SheetFault → Shown
-shown_of (Ok (Some r)) = Ok (Some (seen r))
-shown_of (Ok None) = Ok None
-shown_of (Err f) = Err f
+-- a fault, if there is one
+abbrev pub fault_alone : Result (Unit {0}) SheetFault → List Handed
+fault_alone (Ok _) = []
+fault_alone (Err f) = Err f ∷ []
+
+-- k records from slot i and the place at of the sheet s on, and the fault that bytes are left; or those before the first fault, and that fault
+unfoldable pub handed : ℕ → List ℕ → ℕ → ℕ → List Handed
+handed zero s i at = fault_alone (closes s at)
+handed (suc k) s i at = then_after (in_sheet (record_at (spot_at at i) (drop at s))) (λ n. handed k s (i + 1) (at + n))
+
+-- what a reader has still to hand out
+abbrev pub records_left : Reader → List Handed
+records_left r = handed (228 - r.slot) r.sheet.now r.slot r.at
+
+abbrev pub reading_after : List ℕ → Headed → Result (List Handed) SheetFault
+reading_after s (Ok h) = Ok (handed 228 s 0 h.end)
+reading_after s (Err f) = Err f
+
+-- what is handed out of the sheet s after its head, or the fault of its head
+unfoldable pub reading : List ℕ → Result (List Handed) SheetFault
+reading s = reading_after s (head_of s)
+
+abbrev pub begun : Result Reader SheetFault → Result (List Handed) SheetFault
+begun (Ok r) = Ok (records_left r)
+begun (Err f) = Err f

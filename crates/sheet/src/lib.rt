@@ -6,6 +6,5 @@ pub mod head;
 mod number;
 mod part;
 pub mod reader;
-pub mod reading;
 pub mod sheet;
 pub mod slot_record;

@@ -1,24 +1,92 @@
-// Where a reader of a sheet stands.
-ghost use Rattle.std.specs.Prelude.{◌≡◌, ◌≤◌, length};
+// A reader of a sheet, which hands out its records one after another.
+ghost use Rattle.std.specs.Prelude.{◌≡◌, ◌+◌, ◌≤◌, IfOk, length};
 
-use source::slot::Slot;
+use crate::fault::{SheetFault, Spot};
+use crate::head::Head;
+use crate::part::Part;
+use crate::slot_record::Record;
+use source::slot::SLOTS;
 
-/// A sheet's bytes with the next slot to read, the place of its record, and what the last record told.
+/// The records of a sheet from the next slot on, up to the sheet's end or first fault.
 #[derive(Drop)]
 pub struct Reader<'a> {
-    pub(crate) sheet: &'a [u8],
-    pub(crate) at: usize,
-    pub(crate) slot: usize,
-    pub(crate) told: Slot,
+    sheet: &'a [u8],
+    at: usize,
+    slot: usize,
     ghost inside: { at ≤ length sheet.now },
     ghost counted: { slot ≤ 228 },
 }
 
-impl Reader<'_> {
-    /// What the record told that was read last.
-    pub fn told(&self) -> Slot
-        ensures { result ≡ self.now.told }
+impl<'a> Reader<'a> {
+    ghost use Rattle.sheet.specs.Laws.{ByRecords};
+    ghost use Rattle.sheet.specs.Readers.{begun, handed, here, reading, record_bytes, records_left, seen, shown};
+
+    /// The records of a sheet of any bytes, from slot 0 on; or the first fault of its head.
+    pub fn of(sheet: &'a [u8]) -> Result<Reader<'a>, SheetFault>
+        ensures reads { begun result ≡ reading sheet.now }
+        ensures by_records { IfOk result (λ r. ByRecords sheet.now (records_left r)) }
     {
-        self.told
+        let head = Head::read(sheet)?;
+        Ok(Reader::after(sheet, head))
+    }
+
+    // The records after the head.
+    pub(crate) fn after(sheet: &'a [u8], head: Head) -> Reader<'a>
+        requires { head.end ≤ length sheet.now }
+        ensures { records_left result ≡ handed 228 sheet.now 0 head.end }
+    {
+        Reader {
+            sheet,
+            at: head.end,
+            slot: 0,
+        }
+    }
+
+    // The record at which the reader stands, or the fault there.
+    fn record(&self) -> Result<Record<'a>, SheetFault>
+        ensures reads { shown result ≡ here self.now.sheet.now self.now.slot self.now.at }
+        ensures within { IfOk result (λ r. self.now.at + length (record_bytes (seen r)) ≤ length self.now.sheet.now) }
+    {
+        let at = self.at;
+        if self.slot == SLOTS {
+            return Err(SheetFault::After { place: at });
+        }
+        let rest = Part {
+            bytes: &self.sheet[at..],
+            start: Spot {
+                place: at,
+                slot: self.slot,
+            },
+        };
+        Ok(rest.record()?)
+    }
+}
+
+impl<'a> Iterator for Reader<'a> {
+    ghost use Rattle.std.specs.Iterator.{YieldsFirstBy, item_count};
+    ghost use Rattle.sheet.specs.Readers.{records_left, shown};
+
+    type Item = Result<Record<'a>, SheetFault>;
+
+    ghost next_gives = { YieldsFirstBy shown records_left };
+
+    ghost remaining = { item_count records_left };
+
+    fn next(&mut self) -> Option<Result<Record<'a>, SheetFault>> {
+        if self.slot == SLOTS && self.at == self.sheet.len() {
+            return None;
+        }
+        match self.record() {
+            Ok(record) => {
+                self.at += 1 + record.body().len();
+                self.slot += 1;
+                Some(Ok(record))
+            }
+            Err(fault) => {
+                self.at = self.sheet.len();
+                self.slot = SLOTS;
+                Some(Err(fault))
+            }
+        }
     }
 }

@@ -1,7 +1,7 @@
 // A packed sheet as a price source.
-ghost use Rattle.std.specs.Prelude.{◌≡◌, Err};
+ghost use Rattle.std.specs.Prelude.{◌≡◌, ◌≤◌, None, Err, length, replicate};
 ghost use Rattle.sheet.specs.Laws.{Placed, Silent};
-ghost use Rattle.sheet.specs.Sheets.{sheet_slots, sheet_net, sheet_avoided, first_fault, sheet_meaning};
+ghost use Rattle.sheet.specs.Sheets.{closed, first_fault, sheet_avoided, sheet_meaning, sheet_net, sheet_slots, slots_from};
 
 use crate::fault::SheetFault;
 use crate::head::Head;
@@ -25,6 +25,21 @@ pub struct Sheet<'a> {
     ghost refuses: { checked ≡ first_fault bytes.now },
 }
 
+// Tells the slots by the records after the head, up to the first fault; from there on they stay unreported.
+fn tell(bytes: &[u8], head: Head, slots: &mut [Slot]) -> Result<(), SheetFault>
+    requires inside { head.end ≤ length bytes.now }
+    requires unreported { slots.old ≡ replicate 228 None }
+    ensures tells { slots.new ≡ (slots_from bytes.now head.end).0 }
+    ensures refuses { result ≡ closed bytes.now (slots_from bytes.now head.end).1 }
+{
+    let mut slot = 0;
+    for record in Reader::after(bytes, head) {
+        slots[slot] = record?.slot();
+        slot += 1;
+    }
+    Ok(())
+}
+
 impl<'a> Sheet<'a> {
     /// The sheet of any bytes, decoded once.
     #[tactic(auto, unfolding(crate::specs::Sheets::sheet_slots, crate::specs::Sheets::sheet_net, crate::specs::Sheets::sheet_avoided, crate::specs::Sheets::first_fault, crate::specs::Sheets::slots_after))]
@@ -44,7 +59,7 @@ impl<'a> Sheet<'a> {
                 };
             }
         };
-        let checked = Reader::after(bytes, head).tell(&mut slots);
+        let checked = tell(bytes, head, &mut slots);
         Sheet {
             bytes,
             slots,

@@ -1,7 +1,7 @@
 // The record of one slot.
 ghost use Rattle.std.specs.Prelude.{◌≡◌, ◌≤◌, length, IfOk};
-ghost use Rattle.sheet.specs.Records.{pair, reported_slot, slot_told};
-ghost use Rattle.sheet.specs.Readers.{seen, view_of};
+ghost use Rattle.sheet.specs.Records.{pair};
+ghost use Rattle.sheet.specs.Readers.{record_at, record_bytes, record_seen, seen};
 
 use crate::fault::{NumberFault, RecordFault, Spot};
 use crate::part::Part;
@@ -9,39 +9,100 @@ use source::slot::{Reading, Slot};
 use units::demand::Demand;
 use units::price::Price;
 
-/// A slot as the sheet has it: by its lead byte, with the bytes after that and their place. Its quantities are asked of
-/// the reader, which keeps what its last record told.
+/// A slot as the sheet has it: by its lead byte, with what it tells, the bytes after the lead byte, and the place of the
+/// lead byte.
 #[derive(Clone, Copy)]
 pub enum Record<'a> {
-    Unreported { place: usize },
-    Demand { body: &'a [u8], place: usize },
-    Up { body: &'a [u8], place: usize },
-    Down { body: &'a [u8], place: usize },
-    Both { body: &'a [u8], place: usize },
+    Unreported {
+        place: usize,
+    },
+    Demand {
+        demand: Demand,
+        body: &'a [u8],
+        place: usize,
+    },
+    Up {
+        demand: Demand,
+        up: Price,
+        body: &'a [u8],
+        place: usize,
+    },
+    Down {
+        demand: Demand,
+        down: Price,
+        body: &'a [u8],
+        place: usize,
+    },
+    Both {
+        demand: Demand,
+        up: Price,
+        down: Price,
+        body: &'a [u8],
+        place: usize,
+    },
 }
 
-// The record in which `slot` is told.
-pub(crate) fn record_of<'a>(slot: Slot, body: &'a [u8], place: usize) -> Record<'a>
-    ensures { seen result ≡ view_of slot body.now place }
-{
-    let Some(reading) = slot else {
-        return Record::Unreported { place };
-    };
-    match (reading.up, reading.down) {
-        (None, None) => Record::Demand { body, place },
-        (Some(_), None) => Record::Up { body, place },
-        (None, Some(_)) => Record::Down { body, place },
-        (Some(_), Some(_)) => Record::Both { body, place },
+impl<'a> Record<'a> {
+    /// What the record tells of its slot.
+    pub fn slot(self) -> Slot
+        ensures { result ≡ (seen self.entry).tells }
+    {
+        let (demand, up, down) = match self {
+            Record::Unreported { .. } => return None,
+            Record::Demand { demand, .. } => (demand, None, None),
+            Record::Up { demand, up, .. } => (demand, Some(up), None),
+            Record::Down { demand, down, .. } => (demand, None, Some(down)),
+            Record::Both {
+                demand,
+                up,
+                down,
+                ..
+            } => (demand, Some(up), Some(down)),
+        };
+        Some(Reading { demand, up, down })
+    }
+
+    /// The byte that says which kind of record it is.
+    pub fn lead(self) -> u8
+        ensures { result ≡ (seen self.entry).lead }
+    {
+        match self {
+            Record::Unreported { .. } => 0,
+            Record::Demand { .. } => 1,
+            Record::Up { .. } => 2,
+            Record::Down { .. } => 3,
+            Record::Both { .. } => 4,
+        }
+    }
+
+    /// The bytes after the lead byte.
+    pub fn body(self) -> &'a [u8]
+        ensures { result.now ≡ (seen self.entry).body }
+    {
+        match self {
+            Record::Unreported { .. } => &[],
+            Record::Demand { body, .. }
+            | Record::Up { body, .. }
+            | Record::Down { body, .. }
+            | Record::Both { body, .. } => body,
+        }
+    }
+
+    /// The place of the lead byte among the sheet's bytes.
+    pub fn place(self) -> usize
+        ensures { result ≡ (seen self.entry).place }
+    {
+        match self {
+            Record::Unreported { place }
+            | Record::Demand { place, .. }
+            | Record::Up { place, .. }
+            | Record::Down { place, .. }
+            | Record::Both { place, .. } => place,
+        }
     }
 }
 
-fn reported(demand: Demand, up: Option<Price>, down: Option<Price>) -> Slot
-    ensures { result ≡ reported_slot demand up down }
-{
-    Some(Reading { demand, up, down })
-}
-
-impl Part<'_> {
+impl<'a> Part<'a> {
     // A demand and the price after it, and where they end.
     #[inline(always)]
     #[tactic(auto, unfolding(crate::specs::Records::pair))]
@@ -54,40 +115,65 @@ impl Part<'_> {
         Ok((demand, price, end))
     }
 
-    // What the record at the front tells, and how many bytes it has.
+    // The record at the front.
     #[tactic(auto, using(crate::proofs::Leads::slot_led), unfolding(crate::specs::Records::by_lead))]
-    pub(crate) fn record(&self) -> Result<(Slot, usize), RecordFault>
-        ensures reads { result ≡ slot_told self.now.start self.now.bytes.now }
-        ensures within { IfOk result (λ p. (1 ≤ p.1) × (p.1 ≤ length self.now.bytes.now)) }
+    pub(crate) fn record(&self) -> Result<Record<'a>, RecordFault>
+        ensures reads { record_seen result ≡ record_at self.now.start self.now.bytes.now }
+        ensures within { IfOk result (λ r. length (record_bytes (seen r)) ≤ length self.now.bytes.now) }
     {
         let [lead, rest @ ..] = self.bytes else {
             return Err(RecordFault::Ends(self.start));
         };
-        let body = Part {
+        let place = self.start.place;
+        let numbers = Part {
             bytes: rest,
             start: Spot {
-                place: self.start.place + 1,
+                place: place + 1,
                 slot: self.start.slot,
             },
         };
         match *lead {
-            0 => Ok((None, 1)),
+            0 => Ok(Record::Unreported { place }),
             1 => {
-                let (demand, end) = body.quantity(0)?;
-                Ok((reported(demand, None, None), 1 + end))
+                let (demand, end) = numbers.quantity(0)?;
+                let body = &rest[..end];
+                Ok(Record::Demand {
+                    demand,
+                    body,
+                    place,
+                })
             }
             2 => {
-                let (demand, up, end) = body.pair()?;
-                Ok((reported(demand, Some(up), None), 1 + end))
+                let (demand, up, end) = numbers.pair()?;
+                let body = &rest[..end];
+                Ok(Record::Up {
+                    demand,
+                    up,
+                    body,
+                    place,
+                })
             }
             3 => {
-                let (demand, down, end) = body.pair()?;
-                Ok((reported(demand, None, Some(down)), 1 + end))
+                let (demand, down, end) = numbers.pair()?;
+                let body = &rest[..end];
+                Ok(Record::Down {
+                    demand,
+                    down,
+                    body,
+                    place,
+                })
             }
             4 => {
-                let (demand, up, n) = body.pair()?;
-                let (down, end) = body.quantity(n)?;
-                Ok((reported(demand, Some(up), Some(down)), 1 + end))
+                let (demand, up, n) = numbers.pair()?;
+                let (down, end) = numbers.quantity(n)?;
+                let body = &rest[..end];
+                Ok(Record::Both {
+                    demand,
+                    up,
+                    down,
+                    body,
+                    place,
+                })
             }
             _ => Err(RecordFault::Lead(self.start)),
         }
