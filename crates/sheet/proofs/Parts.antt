@@ -87,7 +87,7 @@ stands_first s i at n q r place told len is =
     } in
     let same : q ≡ r = cc in
     let P : View → Type 0 = λ x. Stands s i at x in
-    rw (add-zero, add-zero) (subst P same there)
+    rw (add-zero i, add-zero at) (subst P same there)
 
 stands_later : (s : List ℕ) (i j at n : ℕ) (q : View) (rs : List View) (r : View) → length (record_bytes q) ≡ n
     → Stands s (i + 1 + j) (at + n + length (all_bytes (take j rs))) r → Stands s (i + suc j) (at + length (all_bytes (take (suc j) (q ∷ rs)))) r

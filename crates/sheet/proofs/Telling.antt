@@ -1,5 +1,5 @@
 -- What the records that are handed out tell, and how their reading ends.
-use Rattle.std.proofs.Common.{◌≡◌, ℕ, zero, suc, ◌+◌, ◌-◌, ◌<◌, ◌≤◌, List, [], ◌∷◌, ◌++◌, length, drop, take, set, replicate, map, Ok, Err, Result, None, ap, ◌∙◌, refl, arith, length-drop, length-append, length-set, length-take, append_assoc, append-nil, take-append-drop, drop-set-lt}
+use Rattle.std.proofs.Common.{◌≡◌, ℕ, zero, suc, ◌+◌, ◌-◌, ◌<◌, ◌≤◌, List, [], ◌∷◌, ◌++◌, length, drop, take, set, replicate, map, Ok, Err, Result, None, ap, sym, ◌∙◌, refl, arith, length-drop, length-append, length-set, length-take, append_assoc, append-nil, take-append-drop, drop-set-lt}
 use Rattle.std.proofs.lemmas.Bool.Decides.{nat_tests}
 use lib.ListN.{length-replicate}
 use Rattle.std.proofs.lemmas.List.{drop-drop, drop-replicate, take_more_set}
@@ -10,7 +10,7 @@ use Rattle.sheet.specs.declared.fault.Spot.{Spot}
 use Rattle.sheet.specs.Readers.{Handed, View, handed, in_sheet, record_bytes, then_after, view_of, viewed}
 use Rattle.sheet.specs.Records.{slot_told, Told}
 use Rattle.sheet.specs.Rows.{row, Row, spot_at, step}
-use Rattle.sheet.specs.Sheets.{closed}
+use Rattle.sheet.specs.Sheets.{closed, slots_from}
 use Rattle.sheet.proofs.Places.{FitsTold, told_fits}
 
 -- the records that are handed out before the first fault
@@ -62,6 +62,11 @@ all_told zero s i at h = grind (arith, nat_tests)
 all_told (suc k) s i at h =
     tells_more k s i at (slot_told (spot_at at i) (drop at s)) h (told_fits (spot_at at i) (drop at s)) (λ n l. all_told k s (i + 1) (at + n) l)
 
+-- the same of all slots
+pub slots_told : (s : List ℕ) (at : ℕ) → at ≤ length s → Tells 228 s (handed 228 s 0 at) (slots_from s at)
+unfolding slots_from
+slots_told s at h = all_told 228 s 0 at h
+
 -- of what is handed out in all, some is left, and the k records before it are told in out
 pub record Sofar (all left : List Handed) (k : ℕ) (out : List Slot) : Type 0 where
   pub few : length (told all) ≤ 228
@@ -95,8 +100,13 @@ more {all} {before} {left} {k} {out} r v e w f =
     }
 
 -- the slots that no record told stay unreported
-pub filled : {all left : List Handed} {k : ℕ} {out : List Slot} → records left ≡ [] → Sofar all left k out → out ≡ told all ++ replicate (228 - length (told all)) None
+filled : {all left : List Handed} {k : ℕ} {out : List Slot} → records left ≡ [] → Sofar all left k out → out ≡ told all ++ replicate (228 - length (told all)) None
 filled {all} {left} {k} {out} e f =
     let slots : told all ≡ take k out = grind (arith, f.slots, e, append-nil) in
     let count : length (told all) ≡ k = omega (arith, ap length slots, length-take {A = Slot}, f.size, f.within) in
     rw (count, slots, ← f.rest, take-append-drop) refl
+
+-- at the end all slots are told
+pub all_filled : (s : List ℕ) (at : ℕ) (left : List Handed) (k : ℕ) (out : List Slot) → at ≤ length s → records left ≡ []
+    → Sofar (handed 228 s 0 at) left k out → out ≡ (slots_from s at).0
+all_filled s at left k out h e f = filled e f ∙ sym (slots_told s at h).slots

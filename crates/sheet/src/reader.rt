@@ -23,7 +23,7 @@ impl<'a> Reader<'a> {
 
     /// The records of a sheet of any bytes, from slot 0 on; or the first fault of its head.
     pub fn of(sheet: &'a [u8]) -> Result<Reader<'a>, SheetFault>
-        ensures reads { begun result ≡ reading sheet.now }
+        ensures hands_out { begun result ≡ reading sheet.now }
         ensures by_records { IfOk result (λ r. ByRecords sheet.now (records_left r)) }
     {
         let head = Head::read(sheet)?;
@@ -72,6 +72,8 @@ impl<'a> Iterator for Reader<'a> {
 
     ghost remaining = { item_count records_left };
 
+    /// The next record; or the sheet's first fault, once; then none.
+    #[tactic(auto, using(crate::proofs::Handing::left_last, crate::proofs::Handing::left_more))]
     fn next(&mut self) -> Option<Result<Record<'a>, SheetFault>> {
         if self.slot == SLOTS && self.at == self.sheet.len() {
             return None;

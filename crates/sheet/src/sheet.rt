@@ -26,6 +26,7 @@ pub struct Sheet<'a> {
 }
 
 // Tells the slots by the records after the head, up to the first fault; from there on they stay unreported.
+#[tactic(auto, using(crate::proofs::Telling::all_filled, crate::proofs::Telling::all_left, crate::proofs::Telling::slots_told))]
 fn tell(bytes: &[u8], head: Head, slots: &mut [Slot]) -> Result<(), SheetFault>
     requires inside { head.end ≤ length bytes.now }
     requires unreported { slots.old ≡ replicate 228 None }
@@ -70,6 +71,7 @@ impl<'a> Sheet<'a> {
     }
 
     /// The first fault from the front of the sheet, or that there is none.
+    #[tactic(auto, using(crate::proofs::Firsts::placed, crate::proofs::Firsts::silent))]
     pub fn check(&self) -> Result<(), SheetFault>
         ensures first { result ≡ first_fault self.now.bytes.now }
         ensures placed { (f : SheetFault) → result ≡ Err f → Placed self.now.bytes.now f }

@@ -128,7 +128,7 @@ impl<'a> Part<'a> {
         let numbers = Part {
             bytes: rest,
             start: Spot {
-                place: place + 1,
+                place: self.start.place + 1,
                 slot: self.start.slot,
             },
         };
