@@ -1,1 +1,2 @@
 pub mod Only
+pub mod Hex

@@ -1,3 +1,4 @@
 pub mod Answers
 pub mod Quarters
+pub mod Records
 pub mod Texts

@@ -3,3 +3,4 @@
 
 pub mod line;
 pub mod quarter_lines;
+pub mod record_lines;

@@ -7,4 +7,6 @@ mod bytes;
 mod quarters;
 mod reference_price;
 #[cfg(test)]
+mod records;
+#[cfg(test)]
 mod refusals;
