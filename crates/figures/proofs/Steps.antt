@@ -1,17 +1,18 @@
 -- One slot more.
-use Rattle.std.proofs.Common.{◌≡◌, ℕ, zero, suc, ◌+◌, ◌*◌, ◌≤◌, true, ℤ, nat_abs, Some, None, Option, refl, sym, ap, ◌∙◌, subst, add-one, arith}
+use Rattle.std.proofs.Common.{◌≡◌, ℕ, zero, suc, ◌+◌, ◌*◌, ◌≤◌, true, ℤ, ◌≤ℤ◌, nat_abs, Some, None, Option, refl, sym, ap, ◌∙◌, subst, add-one, arith}
 use borrow.Author.Differences.{ints}
 use Rattle.source.specs.Meanings.{Meaning}
 use Rattle.source.specs.Products.{weight}
 use Rattle.source.specs.declared.direction.Direction.{Direction}
 use Rattle.source.specs.declared.direction.Direction.TheVariants.{Up, Down}
-use Rattle.units.proofs.Made.{price_made}
+use Rattle.units.proofs.Made.{price_same}
+use Rattle.units.specs.Quantities.{lowest_price, highest_price}
 use Rattle.units.specs.declared.price.Price.{Price}
 use Rattle.units.specs.declared.zone_net.ZoneNet.{ZoneNet}
-use Rattle.figures.specs.Counting.{formed_of, reported}
+use Rattle.figures.specs.Counting.{counted_of, formed_of, reported}
 use Rattle.figures.specs.Sides.{Given, ReportedTo, Slots, net_to, formed_to, counting_to, joined, manual_at}
 use Rattle.figures.specs.Gathering.{side_from}
-use Rattle.figures.specs.Spans.{extremes_of, low_of, high_of, noted, reached, reached_if, span_of, widened}
+use Rattle.figures.specs.Spans.{extremes_of, greater, lesser, low_of, high_of, noted, reached, reached_if, span_of, widened}
 use Rattle.figures.specs.Tallies.{Room, Tallied, blank, counting, counting_in, manual, noting, noting_in, tally_of}
 use Rattle.figures.specs.declared.side.Activation.{Activation}
 use Rattle.figures.specs.declared.gathering.ManualSlots.{ManualSlots}
@@ -30,17 +31,57 @@ abbrev pub Is : Slots → ℕ → Weighed → Type 0
 Is m k w = (m k ≡ Some w.reading) × (w.weight ≡ weight k)
 
 -- ---- one price more, and one activation more
+-- no price lies beyond the bounds of a price
+under_highest : (p : Price) → lesser p highest_price ≡ p
+under_highest p = grind (arith, ints, p.bounded, price_same)
+
+above_lowest : (p : Price) → greater p lowest_price ≡ p
+above_lowest p = grind (arith, ints, p.bounded, price_same)
+
 pub extremes_reached : (p : Price) (o : Option Span) → reached p (extremes_of o) ≡ extremes_of (Some (widened p o))
-extremes_reached p None = grind (arith, ints, p.bounded)
-extremes_reached p (Some s) = grind (arith, ints)
+extremes_reached p None = grind (arith, under_highest p, above_lowest p)
+extremes_reached p (Some s) = refl
 
 pub extremes_noted : (p : Option Price) (o : Option Span) → reached_if p (extremes_of o) ≡ extremes_of (noted p o)
 extremes_noted None o = refl
 extremes_noted (Some p) o = extremes_reached p o
 
-span_again : (s : Option Span) → span_of (extremes_of s) ≡ s
-span_again None = refl
-span_again (Some s) = grind (arith, price_made s.lowest.cents s.lowest refl, price_made s.highest.cents s.highest refl)
+-- where there is a price, the least is not above the greatest
+abbrev Ordered : Option Span → Type 0
+Ordered None = Unit {0}
+Ordered (Some s) = s.lowest.cents ≤ℤ s.highest.cents
+
+widened_ordered : (p : Price) (o : Option Span) → Ordered (Some (widened p o))
+widened_ordered p None = omega (arith, ints)
+widened_ordered p (Some s) = grind (arith, ints)
+
+noted_ordered : (p : Option Price) (o : Option Span) → Ordered o → Ordered (noted p o)
+noted_ordered None o h = h
+noted_ordered (Some p) o h = widened_ordered p o
+
+joined_ordered : (a : Option Activation) (t : Totals) → Ordered t.span → Ordered (joined a t).span
+joined_ordered None t h = h
+joined_ordered (Some a) t h = widened_ordered a.price t.span
+
+formed_ordered : (d : Direction) (m : Slots) (n : ℕ) → Ordered (formed_to d m n)
+unfolding formed_to
+formed_ordered d m zero = tt
+formed_ordered d m (suc k) = noted_ordered (formed_of d (m k)) (formed_to d m k) (formed_ordered d m k)
+
+counting_ordered : (d : Direction) (m : Slots) (n : ℕ) → Ordered (counting_to d m n).span
+unfolding counting_to
+counting_ordered d m zero = tt
+counting_ordered d m (suc k) = joined_ordered (counted_of d (weight k) (m k)) (counting_to d m k) (counting_ordered d m k)
+
+span_again : (s : Option Span) → Ordered s → span_of (extremes_of s) ≡ s
+span_again None h = grind arith
+span_again (Some s) h = grind (arith, ints)
+
+formed_again : (d : Direction) (m : Slots) (n : ℕ) → span_of (extremes_of (formed_to d m n)) ≡ formed_to d m n
+formed_again d m n = span_again (formed_to d m n) (formed_ordered d m n)
+
+counting_again : (d : Direction) (m : Slots) (n : ℕ) → span_of (extremes_of (counting_to d m n).span) ≡ (counting_to d m n).span
+counting_again d m n = span_again (counting_to d m n).span (counting_ordered d m n)
 
 tally_noted : (p : Option Price) (c : Totals) (f : Option Span) → noting_in p (tally_of c f) ≡ tally_of c (noted p f)
 tally_noted p c f = grind (arith, extremes_noted p f)
@@ -121,4 +162,4 @@ module _ (M : Meaning) (t a b e : Tally) (s : ManualSlots) (cycles : Tallied M.s
 
   pub quarter_given : (net : ℤ) (zone : ZoneNet) (o : Option Price) (above below : Side) → net ≡ e.net → zone ≡ M.zone → o ≡ M.avoided
       → above ≡ side_from Up e.up s → below ≡ side_from Down e.down s → Given M net zone o above below
-  quarter_given net zone o above below n z v x y = grind (arith, all_tallied, all_reported, manual_is, span_again)
+  quarter_given net zone o above below n z v x y = grind (arith, all_tallied, all_reported, manual_is, formed_again, counting_again)

@@ -3,6 +3,8 @@ use Rattle.std.specs.Prelude.{◌≡◌, ℕ, ◌<◌, ◌≤◌, Ok, Err, Resul
 use Rattle.source.specs.Meanings.{Meaning}
 use Rattle.source.specs.Products.{weight}
 use Rattle.source.specs.declared.direction.Direction.{Direction}
+use Rattle.source.specs.declared.product.TheConstants.{CYCLES}
+use Rattle.source.specs.declared.slot.TheConstants.{SLOTS}
 use Rattle.figures.specs.Components.{side_in, volume}
 use Rattle.figures.specs.Counting.{Counts}
 use Rattle.figures.specs.Sides.{Given, ReportedTo, Slots}
@@ -18,7 +20,7 @@ use Rattle.figures.specs.declared.weighed.Weighed.{Weighed}
 
 -- k is the first slot that is not reported
 pub record FirstUnreported (m : Slots) (k : ℕ) : Type 0 where
-  pub within : k < 228
+  pub within : k < SLOTS
   pub here : m k ≡ None
   pub before : ReportedTo m k
 
@@ -33,7 +35,7 @@ Figured m (Err e) = FirstUnreported m.slots e.slot
 
 -- some slot of the quarter counts in a direction
 abbrev pub SomeCounts : Direction → Slots → Type 0
-SomeCounts d m = (k : ℕ) × (k < 228) × Counts d (m k)
+SomeCounts d m = (k : ℕ) × (k < SLOTS) × Counts d (m k)
 
 -- V is above 0 in a direction exactly where some slot counts in it
 abbrev pub CountsShown : Slots → Result Figures UnreportedSlot → Type 0
@@ -47,7 +49,7 @@ Weighs m k (Err e) = (e.slot ≡ k) × (m k ≡ None)
 
 -- the cycles, or the first that is not reported
 abbrev pub Cycled : Slots → Result Tally UnreportedSlot → Type 0
-Cycled m (Ok t) = Tallied m 225 225 t × ReportedTo m 225
+Cycled m (Ok t) = Tallied m CYCLES CYCLES t × ReportedTo m CYCLES
 Cycled m (Err e) = FirstUnreported m e.slot
 
 -- a direction's figures, of its cycles, its formed prices and the manual slots

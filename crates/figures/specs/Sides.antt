@@ -1,9 +1,12 @@
 -- The figures that the slots of a quarter give.
 use Rattle.std.specs.Prelude.{◌≡◌, ℕ, zero, suc, ◌+◌, ◌<◌, true, ℤ, pos, ◌+ℤ◌, ◌*ℤ◌, Some, None, Option}
 use Rattle.source.specs.Meanings.{Meaning}
-use Rattle.source.specs.Products.{weight}
+use Rattle.source.specs.Products.{manual_slot, weight}
 use Rattle.source.specs.declared.direction.Direction.{Direction}
 use Rattle.source.specs.declared.direction.Direction.TheVariants.{Up, Down}
+use Rattle.source.specs.declared.product.ManualProduct.TheVariants.{Scheduled, DirectUp, DirectDown}
+use Rattle.source.specs.declared.product.TheConstants.{CYCLES}
+use Rattle.source.specs.declared.slot.TheConstants.{SLOTS}
 use Rattle.source.specs.Slots.{Slot}
 use Rattle.units.specs.declared.price.Price.{Price}
 use Rattle.units.specs.declared.zone_net.ZoneNet.{ZoneNet}
@@ -57,11 +60,11 @@ manual_at d m k = record { volume = volume_of (counted_of d (weight k) (m k)); p
 -- the figures of a direction
 abbrev pub side_of : Direction → Slots → Side
 side_of d m = record {
-  cycles = counting_to d m 225;
-  scheduled = manual_at d m 225;
-  direct_up = manual_at d m 226;
-  direct_down = manual_at d m 227;
-  formed = formed_to d m 228;
+  cycles = counting_to d m CYCLES;
+  scheduled = manual_at d m (manual_slot Scheduled);
+  direct_up = manual_at d m (manual_slot DirectUp);
+  direct_down = manual_at d m (manual_slot DirectDown);
+  formed = formed_to d m SLOTS;
 }
 
 abbrev pub ReportedTo : Slots → ℕ → Type 0
@@ -69,8 +72,8 @@ ReportedTo m n = (k : ℕ) → k < n → reported (m k) ≡ true
 
 -- a source whose 228 slots are reported gives these figures
 pub record Given (m : Meaning) (localNet : ℤ) (zone : ZoneNet) (avoided : Option Price) (above below : Side) : Type 0 where
-  pub all : ReportedTo m.slots 228
-  pub nets : localNet ≡ net_to m.slots 228
+  pub all : ReportedTo m.slots SLOTS
+  pub nets : localNet ≡ net_to m.slots SLOTS
   pub zones : zone ≡ m.zone
   pub saves : avoided ≡ m.avoided
   pub ups : above ≡ side_of Up m.slots

@@ -1,17 +1,15 @@
 -- The least and the greatest of some prices.
-use Rattle.std.specs.Prelude.{cond, ℤ, pos, negsuc, Some, None, Ok, Err, Option, Result, int_lt}
-use Rattle.std.specs.Int.{int_max, int_min}
+use Rattle.std.specs.Prelude.{ℤ, pos, Some, None, Option, int_lt, if◌then◌else◌}
 use Rattle.figures.specs.declared.span.Extremes.{Extremes}
 use Rattle.figures.specs.declared.span.Span.{Span}
-use Rattle.units.specs.Quantities.{price_of}
-use Rattle.units.specs.declared.bounds.OutOfBounds.{OutOfBounds}
+use Rattle.units.specs.Quantities.{lowest_price, highest_price}
 use Rattle.units.specs.declared.price.Price.{Price}
 
 abbrev pub lesser : Price → Price → Price
-lesser p q = cond (int_lt p.cents q.cents) p q
+lesser p q = if int_lt p.cents q.cents then p else q
 
 abbrev pub greater : Price → Price → Price
-greater p q = cond (int_lt q.cents p.cents) p q
+greater p q = if int_lt q.cents p.cents then p else q
 
 -- one price more
 abbrev pub widened : Price → Option Span → Span
@@ -32,24 +30,18 @@ abbrev pub high_of : Option Span → ℤ
 high_of None = pos 0
 high_of (Some s) = s.highest.cents
 
--- a span in cents; without one the lowest lies above all prices and the highest below
+-- the least and the greatest so far; without a price the bounds of a price, crossed
 abbrev pub extremes_of : Option Span → Extremes
-extremes_of None = record { lowest = pos 9_223_372_036_854_775_807; highest = negsuc 9_223_372_036_854_775_807 }
-extremes_of (Some s) = record { lowest = s.lowest.cents; highest = s.highest.cents }
+extremes_of None = record { lowest = highest_price; highest = lowest_price }
+extremes_of (Some s) = record { lowest = s.lowest; highest = s.highest }
 
--- a span of two prices, unless one of them is out of bounds
-abbrev pub span_between : Result Price OutOfBounds → Result Price OutOfBounds → Option Span
-span_between (Ok l) (Ok h) = Some (record { lowest = l; highest = h })
-span_between (Ok l) (Err e) = None
-span_between (Err e) h = None
-
--- the span again
+-- the span again: there was a price unless the two are crossed
 abbrev pub span_of : Extremes → Option Span
-span_of e = span_between (price_of e.lowest) (price_of e.highest)
+span_of e = if int_lt e.highest.cents e.lowest.cents then None else Some (record { lowest = e.lowest; highest = e.highest })
 
 -- one price more
 abbrev pub reached : Price → Extremes → Extremes
-reached p e = record { lowest = int_min e.lowest p.cents; highest = int_max e.highest p.cents }
+reached p e = record { lowest = lesser p e.lowest; highest = greater p e.highest }
 
 -- one price more, where it is formed
 abbrev pub reached_if : Option Price → Extremes → Extremes

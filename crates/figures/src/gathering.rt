@@ -1,5 +1,7 @@
 // Reading a source once for the figures of its quarter.
 ghost use Rattle.std.specs.Prelude.{◌≡◌, ◌<◌};
+ghost use Rattle.source.specs.Products.{manual_slot};
+ghost use Rattle.source.specs.declared.slot.TheConstants.{SLOTS};
 ghost use Rattle.figures.specs.Gathering.{CountsShown, Cycled, Figured, Weighs, side_from};
 
 use crate::fault::UnreportedSlot;
@@ -9,19 +11,10 @@ use crate::tally::{DirectionTally, Tally};
 use crate::weighed::Weighed;
 use source::direction::Direction;
 use source::price_source::PriceSource;
-use source::product::weight_of;
-use source::slot::Reading;
-
-const CYCLES: usize = 225;
-
-const SCHEDULED: usize = 225;
-
-const DIRECT_UP: usize = 226;
-
-const DIRECT_DOWN: usize = 227;
+use source::product::{CYCLES, ManualProduct, weight_of};
 
 fn weighed<S: PriceSource>(source: &S, slot: usize) -> Result<Weighed, UnreportedSlot>
-    requires { slot < 228 }
+    requires { slot < SLOTS }
     ensures { Weighs (S.PriceSource.means source.now).slots slot result }
 {
     let Ok(Some(reading)) = source.slot(slot) else {
@@ -31,6 +24,12 @@ fn weighed<S: PriceSource>(source: &S, slot: usize) -> Result<Weighed, Unreporte
         weight: weight_of(slot),
         reading,
     })
+}
+
+fn manual<S: PriceSource>(source: &S, product: ManualProduct) -> Result<Weighed, UnreportedSlot>
+    ensures { Weighs (S.PriceSource.means source.now).slots (manual_slot product) result }
+{
+    weighed(source, product.slot())
 }
 
 fn cycles<S: PriceSource>(source: &S) -> Result<Tally, UnreportedSlot>
@@ -72,9 +71,9 @@ pub fn figures_of<S: PriceSource>(source: &S) -> Result<Figures, UnreportedSlot>
     ensures counting { CountsShown (S.PriceSource.means source.now).slots result }
 {
     let tally = cycles(source)?;
-    let scheduled = weighed(source, SCHEDULED)?;
-    let direct_up = weighed(source, DIRECT_UP)?;
-    let direct_down = weighed(source, DIRECT_DOWN)?;
+    let scheduled = manual(source, ManualProduct::Scheduled)?;
+    let direct_up = manual(source, ManualProduct::DirectUp)?;
+    let direct_down = manual(source, ManualProduct::DirectDown)?;
     let all = tally
         .noting(scheduled)
         .noting(direct_up)

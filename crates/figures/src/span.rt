@@ -1,9 +1,8 @@
 // The lowest and the highest of some prices.
 ghost use Rattle.std.specs.Prelude.{◌≡◌};
-ghost use Rattle.figures.specs.Spans.{reached, reached_if, span_of};
+ghost use Rattle.figures.specs.Spans.{extremes_of, greater, lesser, reached, reached_if, span_of};
 
 use units::price::Price;
-use units::quantity::Quantity;
 
 #[derive(Clone, Copy)]
 pub struct Span {
@@ -11,28 +10,43 @@ pub struct Span {
     pub highest: Price,
 }
 
-// The lowest and the highest of the prices so far, in cents. Where there is none they lie beyond all prices, the lowest
-// above and the highest below, so that one price more is no case of its own.
+// The lowest and the highest of the prices so far. Where there is none they are the bounds of a price, crossed, so that
+// one price more is no case of its own.
 #[derive(Clone, Copy)]
 pub(crate) struct Extremes {
-    pub(crate) lowest: i64,
-    pub(crate) highest: i64,
+    pub(crate) lowest: Price,
+    pub(crate) highest: Price,
+}
+
+fn lesser(p: Price, q: Price) -> Price
+    ensures { result ≡ lesser p q }
+{
+    if p.cents() < q.cents() { p } else { q }
+}
+
+fn greater(p: Price, q: Price) -> Price
+    ensures { result ≡ greater p q }
+{
+    if q.cents() < p.cents() { p } else { q }
 }
 
 impl Extremes {
-    pub(crate) const NONE: Extremes = Extremes {
-        lowest: i64::MAX,
-        highest: i64::MIN,
-    };
+    pub(crate) fn none() -> Extremes
+        ensures { result ≡ extremes_of None }
+    {
+        Extremes {
+            lowest: Price::highest(),
+            highest: Price::lowest(),
+        }
+    }
 
     // The prices so far and one more.
     pub(crate) fn with(self, price: Price) -> Extremes
         ensures { result ≡ reached price self }
     {
-        let cents = price.cents();
         Extremes {
-            lowest: self.lowest.min(cents),
-            highest: self.highest.max(cents),
+            lowest: lesser(price, self.lowest),
+            highest: greater(price, self.highest),
         }
     }
 
@@ -46,12 +60,16 @@ impl Extremes {
         }
     }
 
-    // The lowest and the highest as prices, where there was one.
+    // The lowest and the highest, where there was a price.
     pub(crate) fn span(self) -> Option<Span>
         ensures { result ≡ span_of self }
     {
-        let lowest = Price::new(self.lowest).ok()?;
-        let highest = Price::new(self.highest).ok()?;
-        Some(Span { lowest, highest })
+        if self.highest.cents() < self.lowest.cents() {
+            return None;
+        }
+        Some(Span {
+            lowest: self.lowest,
+            highest: self.highest,
+        })
     }
 }

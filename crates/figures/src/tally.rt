@@ -1,8 +1,8 @@
 // The sums over the slots that were read so far.
 ghost use Rattle.std.specs.Prelude.{◌≡◌, ◌*◌, ◌≤◌, pos, ◌*ℤ◌, unsigned_abs};
 ghost use Rattle.figures.specs.Counting.{counted, demand_in};
-ghost use Rattle.figures.specs.Sides.{volume_of};
-ghost use Rattle.figures.specs.Tallies.{Room, blank, counting, counting_in, cycles_of, manual, noting, noting_in, with_in};
+ghost use Rattle.figures.specs.Sides.{none, volume_of};
+ghost use Rattle.figures.specs.Tallies.{Room, blank, counting, counting_in, cycles_of, manual, noting, noting_in, tally_of, with_in};
 
 use crate::side::{Activation, Manual, Totals};
 use crate::span::Extremes;
@@ -70,12 +70,16 @@ impl Weighed {
 }
 
 impl DirectionTally {
-    const BLANK: DirectionTally = DirectionTally {
-        volume: 0,
-        value: 0,
-        counting: Extremes::NONE,
-        formed: Extremes::NONE,
-    };
+    fn blank() -> DirectionTally
+        ensures { result ≡ tally_of none None }
+    {
+        DirectionTally {
+            volume: 0,
+            value: 0,
+            counting: Extremes::none(),
+            formed: Extremes::none(),
+        }
+    }
 
     // The totals of the cycles counted.
     pub(crate) fn cycles(self) -> Totals
@@ -136,8 +140,8 @@ impl Tally {
     {
         Tally {
             net: 0,
-            up: DirectionTally::BLANK,
-            down: DirectionTally::BLANK,
+            up: DirectionTally::blank(),
+            down: DirectionTally::blank(),
         }
     }
 

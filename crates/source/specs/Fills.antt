@@ -1,7 +1,8 @@
 -- Netting fill: the avoided value as the price of a cycle whose demand was met by netting.
-use Rattle.std.specs.Prelude.{Bool, true, false, cond, pos, Some, None, Option, int_lt, nat_lt}
+use Rattle.std.specs.Prelude.{Bool, true, false, pos, Some, None, Option, int_lt, nat_lt, if◌then◌else◌}
 use Rattle.source.specs.Meanings.{Meaning}
 use Rattle.source.specs.Slots.{Slot}
+use Rattle.source.specs.declared.product.TheConstants.{CYCLES}
 use Rattle.units.specs.declared.price.Price.{Price}
 
 -- the price formed, or else the avoided value where there is demand in its direction
@@ -18,6 +19,10 @@ fill_slot value (Some r) = Some (record {
   down = filled_price (int_lt r.demand.kw (pos 0)) r.down value;
 })
 
--- slots 0 to 224 are filled, all else is told as below
+-- the cycles are filled, all else is told as below
 abbrev pub filled_meaning : Meaning → Meaning
-filled_meaning m = record { slots = λ k. cond (nat_lt k 225) (fill_slot m.avoided (m.slots k)) (m.slots k); zone = m.zone; avoided = m.avoided }
+filled_meaning m = record {
+  slots = λ k. if nat_lt k CYCLES then fill_slot m.avoided (m.slots k) else m.slots k;
+  zone = m.zone;
+  avoided = m.avoided;
+}

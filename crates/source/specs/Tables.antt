@@ -31,6 +31,10 @@ row_slot r = slot_with (demand_of r.demand) (price_if_any r.up) (price_if_any r.
 abbrev pub no_row : Row
 no_row = record { demand = pos 0; up = None; down = None }
 
+-- reported, with demand 0 and no price
+abbrev pub idle : Slot
+idle = row_slot no_row
+
 -- a row for each slot from 0 on; a missing one is unreported
 abbrev pub table_meaning : List Row → ZoneNet → Option Price → Meaning
 table_meaning rows net value = record { slots = λ k. cond (nat_lt k (length rows)) (row_slot (slice_index_or rows k no_row)) None; zone = net; avoided = value }

@@ -1,6 +1,6 @@
 // A source over rows of plain numbers.
 ghost use Rattle.std.specs.Prelude.{◌≡◌};
-ghost use Rattle.source.specs.Tables.{price_if_any, row_slot, table_meaning};
+ghost use Rattle.source.specs.Tables.{idle, price_if_any, row_slot, table_meaning};
 
 use crate::price_source::PriceSource;
 use crate::slot::{NoSuchSlot, Reading, SLOTS, Slot};
@@ -40,6 +40,13 @@ impl Row {
         let up = price_if_any(self.up).ok()?;
         let down = price_if_any(self.down).ok()?;
         Some(Reading { demand, up, down })
+    }
+
+    /// What an idle row tells: a reading with demand 0 and no price.
+    pub fn idle_slot() -> Slot
+        ensures { result ≡ idle }
+    {
+        Row::IDLE.slot()
     }
 }
 

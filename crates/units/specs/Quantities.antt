@@ -1,5 +1,5 @@
 -- A price, a demand and a zone net of a plain number, or the refusal where it is out of bounds.
-use Rattle.std.specs.Prelude.{ℕ, Bool, true, false, cond, T, ℤ, pos, Ok, Err, Result, nat_le, unsigned_abs}
+use Rattle.std.specs.Prelude.{ℕ, Bool, true, false, cond, T, ℤ, pos, negsuc, Ok, Err, Result, nat_le, unsigned_abs}
 use Rattle.std.proofs.Common.{leb→le, lit≤}
 use Rattle.units.specs.declared.bounds.OutOfBounds.{OutOfBounds}
 use Rattle.units.specs.declared.bounds.OutOfBounds.TheVariants as is
@@ -27,6 +27,14 @@ demand_of z = if_t (nat_le (unsigned_abs z) 10_000_000) (λ h. Ok (record { kw =
 -- whole kW, from -100,000,000 to 100,000,000
 abbrev pub zone_net_of : ℤ → Result ZoneNet OutOfBounds
 zone_net_of z = if_t (nat_le (unsigned_abs z) 100_000_000) (λ h. Ok (record { kw = z; bounded = leb→le (unsigned_abs z) 100_000_000 h })) (Err is.ZoneNet)
+
+-- the least price there is
+abbrev pub lowest_price : Price
+lowest_price = record { cents = negsuc 9_999_899; bounded = lit≤ tt }
+
+-- the greatest
+abbrev pub highest_price : Price
+highest_price = record { cents = pos 9_999_900; bounded = lit≤ tt }
 
 -- the net of a zone of which nothing is told
 abbrev pub no_net : ZoneNet

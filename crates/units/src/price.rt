@@ -11,6 +11,22 @@ pub struct Price {
 }
 
 impl Price {
+    ghost use Rattle.units.specs.Quantities.{lowest_price, highest_price};
+
+    /// The least price there is.
+    pub fn lowest() -> Price
+        ensures { result ≡ lowest_price }
+    {
+        Price { cents: -9_999_900 }
+    }
+
+    /// The greatest.
+    pub fn highest() -> Price
+        ensures { result ≡ highest_price }
+    {
+        Price { cents: 9_999_900 }
+    }
+
     pub fn cents(self) -> i64
         ensures { result ≡ self.cents }
     {
