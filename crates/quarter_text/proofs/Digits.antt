@@ -1,14 +1,12 @@
 -- Numbers that are printed are numerals, and are read as themselves.
-use Rattle.std.proofs.Common.{◌≡◌, ℕ, suc, ◌+◌, ◌-◌, ◌*◌, ◌/◌, ◌%◌, ◌^◌, ◌<◌, ◌≤◌, Bool, true, false, not, cond, ◌&&◌, ◌||◌, ◌==◌, nat_lt, List, [], ◌∷◌, ◌++◌, length, take, drop, ℤ, pos, negsuc, neg_ℤ, nat_abs, Some, None, Option, sym, refl, ap, ◌∙◌, append-nil, decimal, length-append, arith}
+use Rattle.std.proofs.Common.{◌≡◌, ℕ, ◌+◌, ◌-◌, ◌*◌, ◌/◌, ◌%◌, ◌^◌, ◌<◌, ◌≤◌, Bool, true, false, not, cond, ◌&&◌, ◌==◌, List, [], ◌∷◌, ◌++◌, length, Some, None, sym, refl, ap, ◌∙◌, append-nil, decimal, length-append, arith}
 use Rattle.std.proofs.lemmas.Bool.Decides.{nat_tests}
 use Rattle.std.proofs.lemmas.Bool.{and_parts, and_from, eq-eqb, le-ltb, lt-ltb}
 use Rattle.std.proofs.lemmas.Fmt.{decimal_by_steps}
 use Rattle.std.specs.Char.{is_ascii_digit}
-use Rattle.std.specs.Fmt.{signed_decimal}
-use Rattle.std.specs.List.{position, position_or_len, prefix_len}
-use Rattle.std.specs.Option.{option_map}
-use Rattle.quarter_text.specs.Numerals.{Number, by_point, digits, digits_after, magnitude, numeral, signed, value_of}
-use Rattle.quarter_text.proofs.Tokens.{Word, plain, plain_byte, plain_joined}
+use Rattle.std.specs.List.{position, prefix_len}
+use Rattle.quarter_text.specs.Numerals.{digits, digits_after}
+use Rattle.quarter_text.proofs.Tokens.{Word, plain, plain_byte}
 
 abbrev pub all_digits : List ℕ → Bool
 all_digits [] = true

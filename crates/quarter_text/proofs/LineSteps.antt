@@ -1,5 +1,5 @@
 -- One line more of a text.
-use Rattle.std.proofs.Common.{◌≡◌, ℕ, ◌+◌, ◌<◌, List, [], drop, get_or, length, map, Bor, Ok, Err, Result, sym, refl, ap, ◌∙◌, arith}
+use Rattle.std.proofs.Common.{◌≡◌, ℕ, ◌+◌, ◌<◌, List, drop, get_or, length, map, Bor, Ok, Err, Result, refl, ◌∙◌, arith}
 use Rattle.std.proofs.lemmas.List.{at_drop_more, get_or-map, length-map}
 use Rattle.quarter_text.specs.Drafts.{and_then, in_line, with_line, with_lines}
 use Rattle.quarter_text.specs.Reading.{ReadAs, TakenAs}

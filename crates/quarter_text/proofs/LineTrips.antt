@@ -1,29 +1,29 @@
 -- The lines of a printed text are read as what they were printed of.
-use Rattle.std.proofs.Common.{◌≡◌, ℕ, suc, ◌+◌, ◌-◌, ◌*◌, ◌^◌, ◌<◌, ◌≤◌, Bool, true, false, not, cond, ◌&&◌, ◌||◌, ◌==◌, nat_lt, nat_le, List, [], ◌∷◌, ◌++◌, length, take, drop, ℤ, nat_abs, Some, None, Ok, Err, Option, Result, slice_get, sym, refl, ap, ◌∙◌, subst, append-nil, append_assoc, decimal, length-append, ⊎_elim, codes, arith}
+use Rattle.std.proofs.Common.{◌≡◌, ℕ, ◌+◌, ◌^◌, ◌<◌, ◌≤◌, Bool, true, false, ◌==◌, nat_lt, List, [], ◌∷◌, ◌++◌, length, drop, ℤ, nat_abs, Some, None, Ok, Option, slice_get, sym, refl, ap, ◌∙◌, subst, decimal, length-append, ⊎_elim, codes, arith}
 use Rattle.std.proofs.Math.Seq.{take-append_seam, drop-append-add}
 use Rattle.std.proofs.lemmas.Bool.Decides.{nat_tests}
-use Rattle.std.proofs.lemmas.Bool.{and_parts, and_from, cases_Bool, cases_eq, eqb-true, ne_eqb, le-leb, lt-ltb}
+use Rattle.std.proofs.lemmas.Bool.{and_from, cases_eq, eqb-true, le-leb, lt-ltb}
 use Rattle.std.proofs.lemmas.Slice.Eq.{bytes_eq-Decides}
 use Rattle.std.specs.Fmt.{signed_decimal}
 use Rattle.std.specs.List.{position}
 use Rattle.std.specs.Str.{bytes_eq}
 use Rattle.source.specs.Slots.{Slot}
-use Rattle.source.specs.declared.slot.Reading.{Reading}
+use Rattle.source.specs.declared.product.TheConstants.{CYCLES}
 use Rattle.units.proofs.Made.{demand_made, price_made, zone_net_made}
 use Rattle.units.specs.Quantities.{demand_of, price_of, zone_net_of}
 use Rattle.units.specs.Text.{euros}
 use Rattle.units.specs.declared.demand.Demand.{Demand}
 use Rattle.units.specs.declared.price.Price.{Price}
 use Rattle.units.specs.declared.zone_net.ZoneNet.{ZoneNet}
-use Rattle.quarter_text.specs.Lines.{Read, Words, avoided_line, end_at, is_word, numbered, price_at, prices_after, quantity_at, range_line, range_of, slot_of, slots_from, told_by, zone_net_line}
-use Rattle.quarter_text.specs.Numerals.{digits, numeral, value_of}
+use Rattle.quarter_text.specs.Lines.{Words, avoided_line, numbered, price_at, range_line, slot_of, slots_from, told_by, zone_net_line}
+use Rattle.quarter_text.specs.Numerals.{numeral, value_of}
 use Rattle.quarter_text.specs.Texts.{price_text, slots_text, told_text}
 use Rattle.quarter_text.specs.Words.{words_of}
 use Rattle.quarter_text.specs.declared.fault.Part.{Part}
 use Rattle.quarter_text.specs.declared.fault.Part.TheVariants as part
 use Rattle.quarter_text.specs.declared.line.Range.{Range}
-use Rattle.quarter_text.proofs.Tokens.{Word, inline, inline_joined, inline_word, plain, plain_joined, word_first, word_last}
-use Rattle.quarter_text.proofs.Digits.{Writes, all_digits, decimal_writes, digits_plain, digits_read, no_place, place_after, word_of_digits}
+use Rattle.quarter_text.proofs.Tokens.{Word, inline, inline_joined, inline_word, plain_joined, word_first, word_last}
+use Rattle.quarter_text.proofs.Digits.{Writes, decimal_writes, digits_plain, digits_read, no_place, place_after, word_of_digits}
 use Rattle.quarter_text.proofs.Numbers.{Reads, digits_first, euros_read, no_letter, number, signed_read, value_number}
 
 -- PRICES
@@ -151,20 +151,20 @@ pub record SlotsRead (a b : ℕ) : Type 0 where
 manual_read : (a b : ℕ) → b ≡ a → Word (slots_text a a) → ((ws : Words) → range_line (slots_text a a ∷ ws) ≡ Ok (slots_from a a)) → SlotsRead a b
 manual_read a b e w r = subst (λ x. SlotsRead a x) (sym e) (record { word = w; range = r })
 
-cycles_read : (a b : ℕ) (t : Bool) → (a == b) ≡ t → (a == 225) ≡ false → (a == 226) ≡ false → (a == 227) ≡ false → a ≤ b → b < 228 → SlotsRead a b
-cycles_read a b true e x y z l m =
+cycles_read : (a b : ℕ) (t : Bool) → (a == b) ≡ t → nat_lt a CYCLES ≡ true → a ≤ b → b < 228 → SlotsRead a b
+cycles_read a b true e c l m =
     let same : a ≡ b = eqb-true a b e in
     let h = decimal_writes a (omega (arith, l, m)) in
     record {
-      word = rw (x, y, z, e) (word_of_digits a (decimal a) h);
-      range = λ ws. rw (x, y, z, e, digits_first a (decimal a) h 115 (codes "cheduled") (omega arith), digits_first a (decimal a) h 117 (codes "p") (omega arith), digits_first a (decimal a) h 100 (codes "own") (omega arith)) (one_there a b l m ∙ ap (λ n. Ok (slots_from a n)) same);
+      word = rw (c, e) (word_of_digits a (decimal a) h);
+      range = λ ws. rw (c, e, digits_first a (decimal a) h 115 (codes "cheduled") (omega arith), digits_first a (decimal a) h 117 (codes "p") (omega arith), digits_first a (decimal a) h 100 (codes "own") (omega arith)) (one_there a b l m ∙ ap (λ n. Ok (slots_from a n)) same);
     }
-cycles_read a b false e x y z l m =
+cycles_read a b false e c l m =
     let h = decimal_writes a (omega (arith, l, m)) in
-    let no : (c : ℕ) (v : List ℕ) → 65 ≤ c → bytes_eq (decimal a ++ (45 ∷ decimal b)) (c ∷ v) ≡ false = no_letter (decimal a) (45 ∷ decimal b) h.only h.some in
+    let no : (x : ℕ) (v : List ℕ) → 65 ≤ x → bytes_eq (decimal a ++ (45 ∷ decimal b)) (x ∷ v) ≡ false = no_letter (decimal a) (45 ∷ decimal b) h.only h.some in
     record {
-      word = rw (x, y, z, e) (range_word a b l m);
-      range = λ ws. rw (x, y, z, e, no 115 (codes "cheduled") (omega arith), no 117 (codes "p") (omega arith), no 100 (codes "own") (omega arith)) (both_there a b l m);
+      word = rw (c, e) (range_word a b l m);
+      range = λ ws. rw (c, e, no 115 (codes "cheduled") (omega arith), no 117 (codes "p") (omega arith), no 100 (codes "own") (omega arith)) (both_there a b l m);
     }
 
 pub slots_read : (a b : ℕ) → OneLine a b → SlotsRead a b
@@ -175,7 +175,7 @@ slots_read a b o =
     (λ (e : a ≡ 226). manual_read a b (o.manual (omega (arith, e))) (rw e (record { bytes = refl; some = omega arith })) (λ ws. rw e refl))
     (λ (y : a ≡ 226 → ⊥). ⊎_elim
     (λ (e : a ≡ 227). manual_read a b (o.manual (omega (arith, e))) (rw e (record { bytes = refl; some = omega arith })) (λ ws. rw e refl))
-    (λ (z : a ≡ 227 → ⊥). cycles_read a b (a == b) refl (ne_eqb a 225 x) (ne_eqb a 226 y) (ne_eqb a 227 z) o.order o.within)
+    (λ (z : a ≡ 227 → ⊥). cycles_read a b (a == b) refl (lt-ltb a CYCLES (omega (arith, x, y, z, o.order, o.within))) o.order o.within)
     (cases_eq a 227))
     (cases_eq a 226))
     (cases_eq a 225)

@@ -1,9 +1,9 @@
 -- A slot that is named twice ends the naming.
-use Rattle.std.proofs.Common.{◌≡◌, ℕ, zero, suc, ◌+◌, ◌-◌, ◌<◌, ◌≤◌, true, List, length, is_some, Some, None, Ok, Err, Option, Result, slice_index_or, sym, refl, ap, ◌∙◌, subst, arith}
+use Rattle.std.proofs.Common.{◌≡◌, ℕ, zero, suc, ◌+◌, ◌-◌, ◌<◌, ◌≤◌, true, List, length, is_some, None, Ok, Err, Option, slice_index_or, sym, refl, ap, ◌∙◌, subst, arith}
 use Rattle.std.proofs.lemmas.List.{get_or_default}
 use Rattle.source.specs.Slots.{Slot}
 use Rattle.quarter_text.specs.Drafts.{name_slots}
-use Rattle.quarter_text.specs.Lines.{Read, at_word, then}
+use Rattle.quarter_text.specs.Lines.{at_word}
 use Rattle.quarter_text.specs.declared.fault.Problem.TheVariants.{NamedTwice}
 use Rattle.quarter_text.specs.declared.fault.WordFault.{WordFault}
 

@@ -1,17 +1,15 @@
 -- Numbers that are printed with a sign and with decimals are read as themselves.
-use Rattle.std.proofs.Common.{◌≡◌, ℕ, suc, ◌+◌, ◌-◌, ◌*◌, ◌/◌, ◌%◌, ◌^◌, ◌<◌, ◌≤◌, Bool, true, false, not, cond, ◌&&◌, ◌||◌, ◌==◌, nat_lt, List, [], ◌∷◌, ◌++◌, length, take, drop, ℤ, pos, negsuc, neg_ℤ, nat_abs, Some, None, Option, sym, refl, ap, ◌∙◌, append-nil, decimal, length-append, arith}
+use Rattle.std.proofs.Common.{◌≡◌, ℕ, suc, ◌+◌, ◌*◌, ◌/◌, ◌%◌, ◌^◌, ◌<◌, ◌≤◌, true, false, ◌==◌, List, [], ◌∷◌, ◌++◌, length, drop, ℤ, pos, negsuc, nat_abs, Some, sym, refl, ap, ◌∙◌, append-nil, decimal, length-append, arith}
 use Rattle.std.proofs.Math.Seq.{take-append_seam, drop-append-add}
 use Rattle.std.proofs.lemmas.Bool.Decides.{nat_tests}
 use Rattle.std.proofs.lemmas.Bool.{and_parts, and_from}
 use Rattle.std.specs.Char.{is_ascii_digit}
 use Rattle.std.specs.Fmt.{signed_decimal}
-use Rattle.std.specs.List.{position}
-use Rattle.std.specs.Option.{option_map}
 use Rattle.std.specs.Str.{bytes_eq}
 use Rattle.units.specs.Text.{euros, magnitude as euro_digits}
-use Rattle.quarter_text.specs.Numerals.{Number, by_point, digits, digits_after, magnitude, numeral, signed, value_of, with_decimals}
-use Rattle.quarter_text.proofs.Tokens.{Word, plain, plain_byte, plain_joined}
-use Rattle.quarter_text.proofs.Digits.{Writes, all_digits, decimal_writes, digits_joined, digits_plain, digits_read, no_place, place_after, word_of_digits, writes_digit}
+use Rattle.quarter_text.specs.Numerals.{Number, by_point, digits, magnitude, numeral, value_of, with_decimals}
+use Rattle.quarter_text.proofs.Tokens.{Word, plain, plain_joined}
+use Rattle.quarter_text.proofs.Digits.{Writes, all_digits, decimal_writes, digits_plain, digits_read, no_place, place_after, word_of_digits, writes_digit}
 
 -- the number of a whole numeral
 abbrev pub number : ℤ → Number

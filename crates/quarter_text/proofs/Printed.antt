@@ -1,8 +1,8 @@
 -- One slot more of a text that is printed.
-use Rattle.std.proofs.Common.{◌≡◌, ℕ, suc, ◌+◌, ◌++◌, Bool, true, false, List, [], sym, refl, ap, ◌∙◌, append-nil, append_assoc, add-one, arith}
+use Rattle.std.proofs.Common.{◌≡◌, ℕ, ◌+◌, ◌++◌, true, false, List, sym, refl, ap, ◌∙◌, append-nil, append_assoc, add-one}
 use Rattle.source.specs.Meanings.{Meaning}
 use Rattle.source.specs.Slots.{Slot}
-use Rattle.quarter_text.specs.Texts.{ends_run, head_text, line_of, lines_to, run_start, shown_run, text_of}
+use Rattle.quarter_text.specs.Texts.{ends_run, head_text, lines_to, run_start, shown_run, text_of}
 
 -- before the first slot
 pub none_printed : (m : Meaning) (a : List ℕ) → a ≡ head_text m.zone.kw m.avoided → (a ≡ head_text m.zone.kw m.avoided ++ lines_to m.slots 0) × (0 ≡ run_start m.slots 0)

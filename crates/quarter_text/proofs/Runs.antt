@@ -1,17 +1,15 @@
 -- The lines of a printed text, read one after another, name the slots that are not idle.
-use Rattle.std.proofs.Common.{◌≡◌, ℕ, zero, suc, ◌+◌, ◌-◌, ◌<◌, ◌≤◌, Bool, true, false, not, cond, ◌&&◌, ◌||◌, ◌==◌, nat_lt, nat_le, List, [], ◌∷◌, ◌++◌, length, replicate, get_or, set, ℤ, is_some, Some, None, Ok, Err, Option, Result, sym, refl, ap, ◌∙◌, subst, append-nil, append_assoc, add-one, get_or-set_same, get_or-set_other, ◌⊎◌, inl, inr, ⊎_elim, arith}
-use Rattle.std.proofs.lemmas.Bool.Decides.{nat_tests, Decides-int_eq}
-use Rattle.std.proofs.lemmas.Bool.{and_parts, or_parts, leb-false, cases_Bool, cases_eq, cases_lt, le-leb}
+use Rattle.std.proofs.Common.{◌≡◌, ℕ, zero, suc, ◌+◌, ◌<◌, ◌≤◌, true, false, not, ◌&&◌, nat_le, List, length, get_or, set, Some, None, Ok, Option, sym, refl, ap, ◌∙◌, subst, get_or-set_same, get_or-set_other, ◌⊎◌, inl, inr, ⊎_elim, arith}
+use Rattle.std.proofs.lemmas.Bool.Decides.{Decides-int_eq}
+use Rattle.std.proofs.lemmas.Bool.{and_parts, or_parts, leb-false, cases_Bool, cases_eq}
 use Rattle.std.proofs.lemmas.List.{length-set}
 use Rattle.std.specs.Ordering.{int_eq}
 use Rattle.source.specs.Slots.{Slot}
-use Rattle.source.specs.declared.slot.Reading.{Reading}
+use Rattle.source.specs.declared.product.TheConstants.{CYCLES}
 use Rattle.units.proofs.Made.{demand_same, price_same}
 use Rattle.units.specs.declared.price.Price.{Price}
-use Rattle.quarter_text.specs.Drafts.{and_then, in_line, name_slots, with_line, with_lines}
-use Rattle.quarter_text.specs.Lines.{Read, then}
-use Rattle.quarter_text.specs.Quarters.{idle}
-use Rattle.quarter_text.specs.Texts.{ends_run, line_of, lines_to, run_start, run_text, same_price, same_slot, shown_run}
+use Rattle.quarter_text.specs.Drafts.{name_slots}
+use Rattle.quarter_text.specs.Texts.{ends_run, run_start, same_price, same_slot}
 use Rattle.quarter_text.proofs.LineTrips.{OneLine}
 
 -- THE SAME SLOT
@@ -38,12 +36,12 @@ slot_is (Some a) (Some b) e =
 
 module _ (m : ℕ → Slot) where
   -- a slot after which the run goes on
-  pub goes_on : (k : ℕ) → ends_run m k ≡ false → (m k ≡ m (suc k)) × (k < 224)
+  pub goes_on : (k : ℕ) → ends_run m k ≡ false → (m k ≡ m (suc k)) × (k + 1 < CYCLES)
   unfolding ends_run
   goes_on k e =
-      let s = or_parts (nat_le 224 k) (not (same_slot (m k) (m (k + 1)))) e in
+      let s = or_parts (nat_le CYCLES (k + 1)) (not (same_slot (m k) (m (k + 1)))) e in
       let same : same_slot (m k) (m (k + 1)) ≡ true = grind (arith, s.1) in
-      (slot_is (m k) (m (k + 1)) same ∙ ap m (omega arith), leb-false 224 k s.0)
+      (slot_is (m k) (m (k + 1)) same ∙ ap m (omega arith), leb-false CYCLES (k + 1) s.0)
 
   pub start_next : (k : ℕ) → ends_run m k ≡ true → run_start m (suc k) ≡ suc k
   unfolding run_start

@@ -1,11 +1,9 @@
 -- A printed text is read back as the source that was printed.
-use Rattle.std.proofs.Common.{◌≡◌, ℕ, zero, suc, ◌+◌, ◌-◌, ◌<◌, ◌≤◌, Bool, true, false, not, cond, ◌&&◌, List, [], ◌∷◌, ◌++◌, length, replicate, get_or, Some, None, Ok, Err, Option, Result, sym, refl, ap, ◌∙◌, subst, append-nil, append_assoc, add-one, codes, ◌⊎◌, inl, inr, ⊎_elim, arith}
-use Rattle.std.proofs.lemmas.Bool.{cases_Bool, cases_eq, cases_lt, and_from}
-use Rattle.std.proofs.lemmas.List.{length-replicate}
+use Rattle.std.proofs.Common.{◌≡◌, ℕ, zero, suc, ◌+◌, ◌-◌, ◌<◌, ◌≤◌, true, false, cond, List, [], ◌∷◌, ◌++◌, length, replicate, get_or, Some, None, Ok, Option, Result, sym, refl, ap, ◌∙◌, subst, append-nil, append_assoc, codes, inl, inr, ⊎_elim, arith}
+use Rattle.std.proofs.lemmas.Bool.{cases_Bool, cases_lt, and_from}
 use Rattle.std.specs.Fmt.{signed_decimal}
-use Rattle.std.specs.List.{AllByRecursion}
 use Rattle.std.specs.Option.{unwrap_or}
-use Rattle.sheet.specs.Sheets.{first_fault, sheet_meaning}
+use Rattle.sheet.specs.Sheets.{sheet_meaning}
 use Rattle.source.specs.Meanings.{Meaning}
 use Rattle.source.specs.Slots.{Slot}
 use Rattle.units.specs.declared.price.Price.{Price}
@@ -13,10 +11,11 @@ use Rattle.units.specs.declared.zone_net.ZoneNet.{ZoneNet}
 use Rattle.writing.proofs.SheetTrips.{same_bytes}
 use Rattle.writing.specs.Bytes.{sheet_bytes}
 use Rattle.writing.specs.Trips.{Alike}
-use Rattle.quarter_text.specs.Drafts.{and_then, blank, finished, in_line, name_slots, quarter_of, with_line, with_lines, with_range, with_slots}
-use Rattle.quarter_text.specs.Lines.{slots_from, Words}
-use Rattle.quarter_text.specs.Quarters.{idle, meaning_of}
-use Rattle.quarter_text.specs.Texts.{ends_run, head_text, line_of, lines_to, price_text, run_start, run_text, same_slot, shown_run, slots_text, text_of, told_text}
+use Rattle.quarter_text.specs.Drafts.{and_then, blank, finished, with_line, with_lines, with_slots}
+use Rattle.quarter_text.specs.Lines.{slots_from}
+use Rattle.source.specs.Tables.{idle}
+use Rattle.quarter_text.specs.Quarters.{meaning_of}
+use Rattle.quarter_text.specs.Texts.{ends_run, head_text, lines_to, price_text, run_start, run_text, same_slot, slots_text, text_of, told_text}
 use Rattle.quarter_text.specs.Trips.{ReadsBack, SameSheet}
 use Rattle.quarter_text.specs.Words.{lines_of, words_of}
 use Rattle.quarter_text.specs.declared.draft.Draft.{Draft}

@@ -1,8 +1,7 @@
 -- A quarter, read line by line.
 use Rattle.std.specs.Prelude.{ℕ, zero, suc, ◌+◌, ◌-◌, cond, List, [], ◌∷◌, length, replicate, is_some, Some, None, Ok, Err, Option, Result, slice_index_or, slice_set}
-use Rattle.source.specs.Meanings.{Meaning}
 use Rattle.source.specs.Slots.{Slot}
-use Rattle.source.specs.declared.slot.Reading.{Reading}
+use Rattle.source.specs.declared.slot.TheConstants.{SLOTS}
 use Rattle.units.specs.declared.price.Price.{Price}
 use Rattle.units.specs.declared.zone_net.ZoneNet.{ZoneNet}
 use Rattle.quarter_text.specs.Faults.{fault_in}
@@ -10,10 +9,8 @@ use Rattle.quarter_text.specs.Lines.{Read, Words, at_word, avoided_line, range_l
 use Rattle.quarter_text.specs.Words.{lines_of, words_of}
 use Rattle.quarter_text.specs.declared.draft.Draft.{Draft}
 use Rattle.quarter_text.specs.declared.fault.Part.TheVariants as part
-use Rattle.quarter_text.specs.declared.fault.Problem.{Problem}
 use Rattle.quarter_text.specs.declared.fault.Problem.TheVariants.{Missing, NamedTwice}
 use Rattle.quarter_text.specs.declared.fault.TextFault.{TextFault}
-use Rattle.quarter_text.specs.declared.fault.WordFault.{WordFault}
 use Rattle.quarter_text.specs.declared.line.Range.{Range}
 use Rattle.quarter_text.specs.declared.quarter.Quarter.{Quarter}
 
@@ -24,7 +21,7 @@ left (Err e) x = Err e
 
 -- before the first line: no slot is named
 abbrev pub blank : Draft
-blank = record { zone_net = None; avoided = None; named = replicate 228 None }
+blank = record { zone_net = None; avoided = None; named = replicate SLOTS None }
 
 -- the n slots from the first on are told so, unless one of them was named before
 abbrev pub name_slots : List (Option Slot) → ℕ → ℕ → Slot → Read (List (Option Slot))

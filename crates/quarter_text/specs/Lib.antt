@@ -2,6 +2,7 @@ pub mod Drafts
 pub mod Faults
 pub mod Lines
 pub mod Numerals
+pub mod Products
 pub mod Quarters
 pub mod Reading
 pub mod Texts

@@ -1,11 +1,12 @@
 -- What the words of a line say.
 use Rattle.std.specs.Borrow.{Bor}
-use Rattle.std.specs.Prelude.{ℕ, zero, suc, ◌+◌, ◌-◌, ◌*◌, ◌/◌, ◌%◌, Bool, true, false, cond, ◌&&◌, List, [], ◌∷◌, length, map, take, drop, ℤ, Some, None, Ok, Err, Option, Result, ◌==◌, nat_le, nat_lt, slice_get, codes}
+use Rattle.std.specs.Prelude.{ℕ, zero, suc, ◌+◌, ◌-◌, ◌*◌, ◌/◌, ◌%◌, Bool, false, cond, List, length, map, take, drop, ℤ, Some, None, Ok, Err, Option, Result, ◌==◌, nat_le, nat_lt, slice_get, codes}
 use Rattle.std.specs.List.{position}
 use Rattle.std.specs.Str.{bytes_eq}
-use Rattle.source.specs.Products.{weight}
+use Rattle.source.specs.Products.{manual_slot, weight}
 use Rattle.source.specs.Slots.{Slot}
-use Rattle.source.specs.declared.slot.Reading.{Reading}
+use Rattle.source.specs.declared.product.ManualProduct.{ManualProduct}
+use Rattle.source.specs.declared.slot.TheConstants.{SLOTS}
 use Rattle.units.specs.Quantities.{demand_of, price_of, zone_net_of}
 use Rattle.units.specs.declared.bounds.OutOfBounds.{OutOfBounds}
 use Rattle.units.specs.declared.bounds.OutOfBounds.TheVariants as bound
@@ -13,6 +14,7 @@ use Rattle.units.specs.declared.demand.Demand.{Demand}
 use Rattle.units.specs.declared.price.Price.{Price}
 use Rattle.units.specs.declared.zone_net.ZoneNet.{ZoneNet}
 use Rattle.quarter_text.specs.Numerals.{Number, digits, number_of, numeral, value_of}
+use Rattle.quarter_text.specs.Products.{product_named}
 use Rattle.quarter_text.specs.declared.fault.Part.{Part}
 use Rattle.quarter_text.specs.declared.fault.Part.TheVariants as part
 use Rattle.quarter_text.specs.declared.fault.Problem.{Problem}
@@ -101,7 +103,7 @@ slots_from a b = record { first = a; last = b }
 
 -- a slot number
 abbrev pub slot_of : List ℕ → Read ℕ
-slot_of w = then (present 0 part.Slots (digits w)) (λ n. cond (nat_lt n 228) (Ok n) (at_word 0 NoSuchSlot))
+slot_of w = then (present 0 part.Slots (digits w)) (λ n. cond (nat_lt n SLOTS) (Ok n) (at_word 0 NoSuchSlot))
 
 -- a slot, or the first and the last of a range
 abbrev pub numbered : List ℕ → Option ℕ → Read Range
@@ -109,11 +111,13 @@ numbered w None = then (slot_of w) (λ n. Ok (slots_from n n))
 numbered w (Some k) =
     then (slot_of (take k w)) (λ a. then (slot_of (drop (k + 1) w)) (λ b. cond (nat_le a b) (Ok (slots_from a b)) (at_word 0 BackwardRange)))
 
+-- the slot of a manual product, or else the slots that the word numbers
+abbrev pub range_by : Option ManualProduct → List ℕ → Read Range
+range_by (Some p) w = Ok (slots_from (manual_slot p) (manual_slot p))
+range_by None w = numbered w (position (λ b. b == 45) w)
+
 abbrev pub range_of : List ℕ → Read Range
-range_of w =
-    cond (bytes_eq w (codes "scheduled")) (Ok (slots_from 225 225))
-    (cond (bytes_eq w (codes "up")) (Ok (slots_from 226 226))
-    (cond (bytes_eq w (codes "down")) (Ok (slots_from 227 227)) (numbered w (position (λ b. b == 45) w))))
+range_of w = range_by (product_named w) w
 
 -- the weights of n slots from the first on
 abbrev pub weights : ℕ → ℕ → ℕ

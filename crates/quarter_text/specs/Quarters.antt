@@ -1,14 +1,9 @@
 -- What a quarter that a text tells means.
-use Rattle.std.specs.Prelude.{None, Option, slice_index_or}
+use Rattle.std.specs.Prelude.{None, slice_index_or}
 use Rattle.std.specs.Option.{unwrap_or}
 use Rattle.source.specs.Meanings.{Meaning}
-use Rattle.source.specs.Slots.{Slot}
-use Rattle.source.specs.Tables.{no_row, row_slot}
+use Rattle.source.specs.Tables.{idle}
 use Rattle.quarter_text.specs.declared.quarter.Quarter.{Quarter}
-
--- reported, with demand 0 and no price
-abbrev pub idle : Slot
-idle = row_slot no_row
 
 -- a slot that is not named is idle
 abbrev pub meaning_of : Quarter → Meaning

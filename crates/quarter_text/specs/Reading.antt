@@ -6,7 +6,7 @@ use Rattle.quarter_text.specs.declared.fault.ReadFault.TheVariants.{Text, Memory
 use Rattle.quarter_text.specs.declared.fault.TextFault.{TextFault}
 use Rattle.quarter_text.specs.declared.quarter.Quarter.{Quarter}
 
--- the quarter, or the fault of the text; want of memory is a fault of its own
+-- the quarter of the text; a refusal is its very fault, or else want of memory, after which nothing is known of the text
 abbrev pub ReadAs : Result Quarter TextFault → Result Quarter ReadFault → Type 0
 ReadAs a (Ok q) = a ≡ Ok q
 ReadAs a (Err (Text f)) = a ≡ Err f

@@ -1,24 +1,37 @@
 -- The text of what a source means.
-use Rattle.std.specs.Prelude.{ℕ, zero, suc, ◌+◌, Bool, true, false, not, cond, ◌&&◌, ◌||◌, List, [], ◌∷◌, ◌++◌, ℤ, Some, None, Option, ◌==◌, nat_le, decimal, codes}
+use Rattle.std.specs.Prelude.{ℕ, zero, suc, ◌+◌, Bool, true, false, not, cond, ◌&&◌, ◌||◌, List, [], ◌∷◌, ◌++◌, ℤ, Some, None, Ok, Err, Option, Result, ◌==◌, nat_le, decimal, codes, if◌then◌else◌}
 use Rattle.std.specs.Fmt.{signed_decimal}
 use Rattle.std.specs.Ordering.{int_eq}
 use Rattle.source.specs.Meanings.{Meaning}
+use Rattle.source.specs.Products.{product_of}
 use Rattle.source.specs.Slots.{Slot}
-use Rattle.source.specs.declared.slot.Reading.{Reading}
+use Rattle.source.specs.Tables.{idle}
+use Rattle.source.specs.declared.product.Product.{Product}
+use Rattle.source.specs.declared.product.Product.TheVariants.{Automatic, Manual}
+use Rattle.source.specs.declared.product.TheConstants.{CYCLES}
+use Rattle.source.specs.declared.slot.NoSuchSlot.{NoSuchSlot}
+use Rattle.source.specs.declared.slot.TheConstants.{SLOTS}
 use Rattle.units.specs.Text.{euros}
 use Rattle.units.specs.declared.price.Price.{Price}
-use Rattle.quarter_text.specs.Quarters.{idle}
+use Rattle.quarter_text.specs.Products.{product_word}
 
 -- euros, or a - where there is no price
 abbrev pub price_text : Option Price → List ℕ
 price_text None = codes "-"
 price_text (Some p) = euros p.cents
 
--- a cycle or a range of cycles, or the word of a manual slot
+-- the number of a cycle, or of the first and the last of a range
+abbrev pub cycles_text : ℕ → ℕ → List ℕ
+cycles_text a b = if a == b then decimal a else (decimal a ++ (45 ∷ decimal b))
+
+abbrev pub slots_by : Result Product NoSuchSlot → ℕ → ℕ → List ℕ
+slots_by (Ok (Manual p)) a b = product_word p
+slots_by (Ok Automatic) a b = cycles_text a b
+slots_by (Err e) a b = cycles_text a b
+
+-- the word of a manual slot, or the numbers of cycles
 abbrev pub slots_text : ℕ → ℕ → List ℕ
-slots_text a b =
-    cond (a == 225) (codes "scheduled")
-    (cond (a == 226) (codes "up") (cond (a == 227) (codes "down") (cond (a == b) (decimal a) (decimal a ++ (45 ∷ decimal b)))))
+slots_text a b = slots_by (product_of a) a b
 
 abbrev pub told_text : Slot → List ℕ
 told_text None = codes "unreported"
@@ -42,7 +55,7 @@ same_slot (Some a) (Some b) = int_eq a.demand.kw b.demand.kw && same_price a.up 
 
 -- equal cycles that follow one another stand on one line; k is the last of such a run
 unfoldable pub ends_run : (ℕ → Slot) → ℕ → Bool
-ends_run m k = nat_le 224 k || not (same_slot (m k) (m (k + 1)))
+ends_run m k = nat_le CYCLES (k + 1) || not (same_slot (m k) (m (k + 1)))
 
 -- the first slot of the run in which k stands
 unfoldable pub run_start : (ℕ → Slot) → ℕ → ℕ
@@ -67,4 +80,4 @@ head_text net avoided = codes "net " ++ (signed_decimal net ++ (10 ∷ (codes "a
 
 -- the zone net, the avoided value, and the slots that are not idle
 unfoldable pub text_of : Meaning → List ℕ
-text_of m = head_text m.zone.kw m.avoided ++ lines_to m.slots 228
+text_of m = head_text m.zone.kw m.avoided ++ lines_to m.slots SLOTS

@@ -21,7 +21,7 @@ pub(crate) struct Draft {
 // The slots of a range are told so, unless one of them was named before.
 #[tactic(auto, using(crate::proofs::Named::named_twice))]
 fn name_slots(named: &mut [Option<Slot>; SLOTS], range: Range, told: Slot) -> Result<(), WordFault>
-    requires { (range.first ≤ range.last) × (range.last < 228) }
+    requires { (range.first ≤ range.last) × (range.last < SLOTS) }
     ensures { left result named.new ≡ name_slots named.old range.first (range.last + 1 - range.first) told }
 {
     for slot in range.first..=range.last {

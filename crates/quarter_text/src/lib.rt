@@ -8,6 +8,7 @@ mod line;
 pub mod message;
 mod numeral;
 pub mod printing;
+mod product;
 pub mod quarter;
 pub mod reading;
 mod words;

@@ -9,9 +9,10 @@ ghost use Rattle.quarter_text.specs.Numerals.{capped, number_of};
 use crate::decimal::{digits, first_at};
 use crate::fault::{Part, Problem, WordFault};
 use crate::numeral::Numeral;
+use crate::product::product_named;
 use crate::words::nth;
-use source::product::weight_of;
-use source::slot::{Reading, Slot};
+use source::product::{CYCLES, weight_of};
+use source::slot::{Reading, SLOTS, Slot};
 use units::bounds::OutOfBounds;
 use units::demand::Demand;
 use units::price::Price;
@@ -67,10 +68,10 @@ impl Range {
 
     // The weights of the slots.
     fn weight(self) -> u64
-        requires { (self.first ≤ self.last) × (self.last < 228) }
+        requires { (self.first ≤ self.last) × (self.last < SLOTS) }
         ensures value { result ≡ weight_of_range self }
         ensures low { 1 ≤ result }
-        ensures high { result ≤ 228 * 225 }
+        ensures high { result ≤ SLOTS * CYCLES }
     {
         let mut weight = 0;
         for slot in self.first..=self.last {
@@ -82,10 +83,10 @@ impl Range {
 
 fn slot_of(word: &[u8]) -> Result<usize, WordFault>
     ensures reads { result ≡ slot_of word.now }
-    ensures within { IfOk result (λ k. k < 228) }
+    ensures within { IfOk result (λ k. k < SLOTS) }
 {
     let slot = digits(word).ok_or(expected(0, Part::Slots))?;
-    if slot >= 228 {
+    if slot >= SLOTS as u64 {
         return at_word(0, Problem::NoSuchSlot);
     }
     Ok(slot as usize)
@@ -94,7 +95,7 @@ fn slot_of(word: &[u8]) -> Result<usize, WordFault>
 // A slot, or the first and the last of a range.
 fn numbered(word: &[u8]) -> Result<Range, WordFault>
     ensures reads { result ≡ numbered word.now (position (λ b. b == 45) word.now) }
-    ensures within { IfOk result (λ r. (r.first ≤ r.last) × (r.last < 228)) }
+    ensures within { IfOk result (λ r. (r.first ≤ r.last) × (r.last < SLOTS)) }
 {
     let Some(dash) = first_at(word, b'-') else {
         return Ok(Range::one(slot_of(word)?));
@@ -109,7 +110,7 @@ fn numbered(word: &[u8]) -> Result<Range, WordFault>
 
 // Energy over slots of this weight in all, as the demand in each of them.
 fn power(word: usize, weight: u64, energy: Numeral) -> Result<Demand, WordFault>
-    requires { (1 ≤ weight) × (weight ≤ 228 * 225) }
+    requires { (1 ≤ weight) × (weight ≤ SLOTS * CYCLES) }
     ensures { result ≡ power word weight (number_of energy) }
 {
     let size = energy.size * 900;
@@ -199,16 +200,12 @@ impl<'a> Line<'a> {
     /// The slots that a line names.
     pub(crate) fn range(&self) -> Result<Range, WordFault>
         ensures reads { result ≡ range_line (words_in self.now) }
-        ensures within { IfOk result (λ r. (r.first ≤ r.last) × (r.last < 228)) }
+        ensures within { IfOk result (λ r. (r.first ≤ r.last) × (r.last < SLOTS)) }
     {
-        if self.has(0, b"scheduled") {
-            Ok(Range::one(225))
-        } else if self.has(0, b"up") {
-            Ok(Range::one(226))
-        } else if self.has(0, b"down") {
-            Ok(Range::one(227))
-        } else {
-            numbered(self.word(0, Part::Slots)?)
+        let word = self.word(0, Part::Slots)?;
+        match product_named(word) {
+            Some(product) => Ok(Range::one(product.slot())),
+            None => numbered(word),
         }
     }
 
@@ -232,7 +229,7 @@ impl<'a> Line<'a> {
 
     /// What the line says of each of its slots.
     pub(crate) fn told(&self, range: Range) -> Result<Slot, WordFault>
-        requires { (range.first ≤ range.last) × (range.last < 228) }
+        requires { (range.first ≤ range.last) × (range.last < SLOTS) }
         ensures { result ≡ told_by (words_in self.now) range }
     {
         if self.has(1, b"unreported") {

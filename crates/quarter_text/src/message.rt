@@ -1,5 +1,5 @@
 // What is said of a text that is refused.
-ghost use Rattle.std.specs.Prelude.{◌≡◌, IfOk};
+ghost use Rattle.std.specs.Prelude.{◌≡◌, IfOk, IsOkUnless, alloc_error};
 ghost use Rattle.std.specs.Option.{option_map};
 ghost use Rattle.quarter_text.specs.Words.{word_of};
 
@@ -102,9 +102,10 @@ impl fmt::Display for Message<'_> {
     }
 }
 
-/// The word at which a fault stands; nothing where the line ends before it.
+/// The word at which a fault stands; nothing where the line ends before it. Only want of memory refuses it.
 pub fn word_of(heap: Global, text: &[u8], fault: TextFault) -> Result<Option<&[u8]>, AllocError>
-    ensures { IfOk result (λ o. option_map (λ w. w.now) o ≡ word_of text.now fault.line fault.word) }
+    ensures word { IfOk result (λ o. option_map (λ w. w.now) o ≡ word_of text.now fault.line fault.word) }
+    ensures only_memory_refuses { IsOkUnless result alloc_error }
 {
     let lines = lines_of(heap, text)?;
     let Some(line) = nth(lines.as_slice(), fault.line) else {

@@ -1,11 +1,13 @@
 // A price source as plain text.
-ghost use Rattle.std.specs.Prelude.{◌≡◌, ◌<◌, ◌++◌, IfOk, OnOk, Some};
+ghost use Rattle.std.specs.Prelude.{◌≡◌, ◌<◌, ◌++◌, IfOk, IsOkUnless, OnOk, Some, alloc_error};
 ghost use Rattle.std.specs.String.{string_bytes};
 ghost use Rattle.quarter_text.specs.Texts.{ends_run, head_text, price_text, same_slot, shown_run, slots_text, text_of, told_text};
 ghost use Rattle.quarter_text.specs.Trips.{ReadsBack, SameSheet};
 
 use crate::line::Range;
+use crate::product::product_word;
 use source::price_source::PriceSource;
+use source::product::{CYCLES, Product};
 use source::slot::{SLOTS, Slot};
 use source::table::Row;
 use std::alloc::{AllocError, Global};
@@ -34,10 +36,8 @@ impl fmt::Display for Range {
 
     fn fmt<W: fmt::Write>(&self, f: &mut fmt::Formatter<W>) -> fmt::Result {
         let Range { first, last } = *self;
-        match first {
-            225 => write!(f, "scheduled"),
-            226 => write!(f, "up"),
-            227 => write!(f, "down"),
+        match Product::try_from(first) {
+            Ok(Product::Manual(product)) => write!(f, "{}", product_word(product)),
             _ if first == last => write!(f, "{first}"),
             _ => write!(f, "{first}-{last}"),
         }
@@ -94,7 +94,7 @@ fn same_slot(a: Slot, b: Slot) -> bool
 
 // What the source tells of a slot; no slot number here is refused.
 fn told<S: PriceSource>(source: &S, slot: usize) -> Slot
-    ensures { slot < 228 → result ≡ (S.PriceSource.means source.now).slots slot }
+    ensures { slot < SLOTS → result ≡ (S.PriceSource.means source.now).slots slot }
 {
     source.slot(slot).ok().flatten()
 }
@@ -102,26 +102,28 @@ fn told<S: PriceSource>(source: &S, slot: usize) -> Slot
 // Whether the next slot has a line of its own.
 #[tactic(auto, unfolding(crate::specs::Texts::ends_run))]
 fn ends_run<S: PriceSource>(source: &S, last: usize) -> bool
-    requires { last < 228 }
+    requires { last < SLOTS }
     ensures { result ≡ ends_run (S.PriceSource.means source.now).slots last }
 {
-    last >= 224 || !same_slot(told(source, last), told(source, last + 1))
+    last + 1 >= CYCLES || !same_slot(told(source, last), told(source, last + 1))
 }
 
 // The line of slots of which the same is told; idle ones have none.
 fn put_run(text: &mut String, range: Range, slot: Slot) -> Result<(), AllocError>
     ensures { OnOk result (string_bytes text.new ≡ string_bytes text.old ++ shown_run range.first range.last slot) }
 {
-    if same_slot(slot, Row::IDLE.slot()) {
+    if same_slot(slot, Row::idle_slot()) {
         return Ok(());
     }
     write!(text, "{range} {}\n", SlotText(slot))
 }
 
-/// The text of a source: its zone net, its avoided value, and the slots that are not idle.
+/// The text of a source: its zone net, its avoided value, and the slots that are not idle. Only want of memory
+/// refuses it.
 #[tactic(auto, using(crate::proofs::TextTrips::same_sheet, crate::proofs::Printed::all_printed))]
 pub fn quarter_text<S: PriceSource>(heap: Global, source: &S) -> Result<String, AllocError>
     ensures prints { IfOk result (λ t. string_bytes t ≡ text_of (S.PriceSource.means source.now)) }
+    ensures only_memory_refuses { IsOkUnless result alloc_error }
     ensures reads_back { ReadsBack (S.PriceSource.means source.now) }
     ensures same_sheet { SameSheet (S.PriceSource.means source.now) }
 {

@@ -22,7 +22,7 @@ impl PriceSource for Quarter {
 
     fn slot(&self, slot: usize) -> Result<Slot, NoSuchSlot> {
         match self.named.get(slot) {
-            Some(named) => Ok(named.unwrap_or(Row::IDLE.slot())),
+            Some(named) => Ok(named.unwrap_or(Row::idle_slot())),
             None => Err(NoSuchSlot { slot }),
         }
     }

@@ -22,9 +22,10 @@ fn take_line(heap: Global, draft: &mut Draft, line: usize, bytes: &[u8]) -> Resu
     Ok(())
 }
 
-/// The quarter that a text of any bytes tells, or its first fault.
+/// The quarter that a text of any bytes tells, or its first fault; else memory was wanting, which says nothing of
+/// the text. Nothing else refuses it.
 pub fn read_quarter(heap: Global, text: &[u8]) -> Result<Quarter, ReadFault>
-    ensures { ReadAs (quarter_of text.now) result }
+    ensures quarter_or_first_fault_or_memory { ReadAs (quarter_of text.now) result }
 {
     let mut draft = Draft::blank();
     let lines = lines_of(heap, text)?;

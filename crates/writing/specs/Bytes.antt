@@ -4,6 +4,7 @@ use Rattle.sheet.specs.Heads.{opening}
 use Rattle.sheet.specs.Readers.{by_prices}
 use Rattle.source.specs.Meanings.{Meaning}
 use Rattle.source.specs.declared.slot.Reading.{Reading}
+use Rattle.source.specs.declared.slot.TheConstants.{SLOTS}
 use Rattle.source.specs.Slots.{Slot}
 use Rattle.units.specs.declared.price.Price.{Price}
 
@@ -50,4 +51,4 @@ head_bytes m = opening ++ (number_bytes m.zone.kw ++ avoided_bytes m.avoided)
 
 -- the sheet of what a source means
 unfoldable pub sheet_bytes : Meaning → List ℕ
-sheet_bytes m = head_bytes m ++ row_bytes m.slots 228
+sheet_bytes m = head_bytes m ++ row_bytes m.slots SLOTS

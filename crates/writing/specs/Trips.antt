@@ -3,11 +3,12 @@ use Rattle.std.specs.Prelude.{◌≡◌, ℕ, ◌<◌, List, Ok}
 use Rattle.std.specs.List.{AllByRecursion}
 use Rattle.sheet.specs.Sheets.{first_fault, sheet_meaning}
 use Rattle.source.specs.Meanings.{Meaning}
+use Rattle.source.specs.declared.slot.TheConstants.{SLOTS}
 use Rattle.writing.specs.Bytes.{sheet_bytes}
 
 -- the same 228 slots, zone net and avoided value
 pub record Alike (m n : Meaning) : Type 0 where
-  pub slots : (k : ℕ) → k < 228 → m.slots k ≡ n.slots k
+  pub slots : (k : ℕ) → k < SLOTS → m.slots k ≡ n.slots k
   pub zones : m.zone ≡ n.zone
   pub values : m.avoided ≡ n.avoided
 

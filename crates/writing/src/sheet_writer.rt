@@ -1,5 +1,5 @@
 // A whole sheet, written from any source.
-ghost use Rattle.std.specs.Prelude.{◌≡◌, ◌<◌, length, IfOk};
+ghost use Rattle.std.specs.Prelude.{◌≡◌, ◌<◌, length, IfOk, IsOkUnless, alloc_error};
 ghost use Rattle.writing.specs.Bytes.{sheet_bytes};
 ghost use Rattle.writing.specs.Trips.{SameBytes, TellsBack};
 ghost use Rattle.writing.specs.Writes.{left, written};
@@ -14,7 +14,7 @@ use std::alloc::{AllocError, Global};
 
 // What the source tells of a slot; no slot number here is refused.
 fn told<S: PriceSource>(source: &S, slot: usize) -> Slot
-    ensures { slot < 228 → result ≡ (S.PriceSource.means source.now).slots slot }
+    ensures { slot < SLOTS → result ≡ (S.PriceSource.means source.now).slots slot }
 {
     source.slot(slot).ok().flatten()
 }
@@ -59,10 +59,11 @@ pub fn write_sheet<S: PriceSource>(source: &S, out: &mut [u8]) -> Result<usize, 
     Ok(needed)
 }
 
-/// The sheet of a source, in memory of its own.
+/// The sheet of a source, in memory of its own. Only want of memory refuses it, and leaves nothing made.
 #[tactic(auto, using(crate::proofs::SheetTrips::same_bytes))]
 pub fn sheet_vec<S: PriceSource>(heap: Global, source: &S) -> Result<Vec<u8>, AllocError>
     ensures made { IfOk result (λ v. v.items ≡ sheet_bytes (S.PriceSource.means source.now)) }
+    ensures only_memory_refuses { IsOkUnless result alloc_error }
     ensures tells_back { TellsBack (S.PriceSource.means source.now) }
     ensures same_bytes { SameBytes (S.PriceSource.means source.now) }
 {

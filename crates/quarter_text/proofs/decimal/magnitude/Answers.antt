@@ -1,4 +1,4 @@
-use Rattle.std.proofs.Common.{◌≡◌, ◌+◌, ◌-◌, ◌^◌, length, length-drop, sym, ap, ◌∙◌, Some, arith}
+use Rattle.std.proofs.Common.{◌+◌, ◌-◌, ◌^◌, length, length-drop, sym, ap, ◌∙◌, Some, arith}
 use Rattle.quarter_text.proofs.Capped.{all_left, capped, decimals_read}
 use Rattle.quarter_text.specs.Numerals.{digits}
 use Rattle.quarter_text.proofs.decimal.magnitude.Goals as goal

@@ -1,4 +1,4 @@
-use Rattle.std.proofs.Common.{◌≡◌, ◌≤◌, ◌++◌}
+use Rattle.std.proofs.Common.{◌≡◌, ◌++◌}
 use Rattle.std.specs.String.{string_bytes}
 use Rattle.quarter_text.specs.Texts.{head_text, lines_to, run_start}
 use Rattle.quarter_text.proofs.printing.quarter_text.Given as goal
