@@ -4,6 +4,7 @@
 pub mod bounds;
 pub mod demand;
 pub mod euros;
+pub mod fraction;
 pub mod price;
 pub mod quantity;
 pub mod ratio;

@@ -3,6 +3,7 @@ ghost use Rattle.std.specs.Prelude.{◌≡◌, ℤ, pos, ◌*ℤ◌, neg_ℤ, �
 ghost use Rattle.units.specs.Exact.{exact_of, whole, at_most};
 ghost use Rattle.units.specs.Rounding.{rounded, Nearest};
 
+use crate::fraction::Fraction;
 use crate::price::Price;
 use crate::ratio::Ratio;
 
@@ -25,22 +26,6 @@ impl Ratio {
         i128::from(self.n) * i128::from(other.d) <= i128::from(other.n) * i128::from(self.d)
     }
 
-    // The nearest whole number, by signed division: the remainder has the sign of `n`.
-    fn nearest(self) -> i64
-        ensures { result ≡ rounded self.n self.d }
-    {
-        let d = self.d as i64;
-        let whole = self.n / d;
-        let rest = self.n % d;
-        if 2 * rest >= d {
-            whole + 1
-        } else if 2 * rest <= -d {
-            whole - 1
-        } else {
-            whole
-        }
-    }
-
     /// The nearest cent, a half going away from zero.
     pub fn nearest_cent(self) -> Price
         ensures value { result.cents ≡ rounded self.n self.d }
@@ -49,8 +34,12 @@ impl Ratio {
         ensures symmetric { rounded (neg_ℤ self.n) self.d ≡ neg_ℤ result.cents }
         ensures between { (low high : ℤ) → (low *ℤ pos self.d) ≤ℤ self.n → self.n ≤ℤ (high *ℤ pos self.d) → (low ≤ℤ result.cents) × (result.cents ≤ℤ high) }
     {
+        let exact = Fraction {
+            n: self.n,
+            d: self.d,
+        };
         Price {
-            cents: self.nearest() as i32,
+            cents: exact.nearest() as i32,
         }
     }
 }

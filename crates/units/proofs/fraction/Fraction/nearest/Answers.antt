@@ -2,7 +2,7 @@ use Rattle.std.proofs.Common.{arith}
 use borrow.Author.Differences.{ints}
 use Rattle.std.proofs.lemmas.Int.{to_z-of_z, to_z_pos}
 use Rattle.units.proofs.Rounds.{past_half, under_minus_half, under_half}
-use Rattle.units.proofs.ratio.Ratio.nearest.Goals as goal
+use Rattle.units.proofs.fraction.Fraction.nearest.Goals as goal
 
 pub overflow_add-result : goal.overflow_add-result
 overflow_add-result c = grind (arith, ints, to_z-of_z, to_z_pos)
