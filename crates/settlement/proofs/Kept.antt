@@ -1,9 +1,8 @@
 -- Each call keeps that the book holds what the run says.
-use Rattle.std.proofs.Common.{◌≡◌, ℕ, zero, suc, ◌<◌, ◌≤◌, Bool, true, false, not, ◌&&◌, eqb, ◌≢◌, List, [], ◌∷◌, length, get_or, set, replicate, ℤ, ◌+ℤ◌, ◌-ℤ◌, ◌*ℤ◌, Some, None, Ok, Err, IfOk, vec_items, vec_len, is_some, Option, Result, sym, refl, ap, ◌∙◌, subst, ⊎_elim, arith, get_or-set_other, get_or-set_same}
+use Rattle.std.proofs.Common.{◌≡◌, ℕ, zero, suc, ◌<◌, Bool, true, false, not, ◌&&◌, eqb, ◌≢◌, List, [], ◌∷◌, length, get_or, set, replicate, ℤ, ◌+ℤ◌, ◌-ℤ◌, ◌*ℤ◌, Some, None, Ok, Err, IfOk, is_some, Option, Result, sym, refl, ap, ◌∙◌, subst, ⊎_elim, arith, get_or-set_other, get_or-set_same}
 use borrow.Author.Differences.{ints}
 use Rattle.std.specs.Option.{option_map}
-use Rattle.std.proofs.lemmas.Bool.{eqb-true, eq-eqb, ne_eqb, cases_Bool, cases_eq, cases_lt, and_parts, and_from}
-use Rattle.std.proofs.lemmas.List.{get_or-replicate, length-map}
+use Rattle.std.proofs.lemmas.Bool.{eqb-true, eq-eqb, ne_eqb, cases_Bool, cases_eq, and_parts, and_from}
 use Rattle.metering.specs.Imbalances.{Values, balanced, imbalance, kwh_of, metering_fault, or_next, unless, unless_fault}
 use Rattle.metering.proofs.Positions.{passed}
 use Rattle.metering.specs.declared.imbalance.Imbalance.{Imbalance}
@@ -12,21 +11,21 @@ use Rattle.source.specs.Meanings.{Meaning}
 use Rattle.units.proofs.Rounds.{nearest_rounded}
 use Rattle.units.specs.Rounding.{rounded}
 use Rattle.units.specs.declared.euros.Amount.{Amount}
-use Rattle.settlement.specs.Books.{Filed, Fresh, Metered, Paid, imbalance_at, in_book, paid_to, payments_in, quarter_at, volumes_in, volumes_of}
+use Rattle.settlement.specs.Books.{Filed, Fresh, Metered, Paid, SameCounts, imbalance_at, in_book, paid_to, payments_in, quarter_at, volumes_in, volumes_of}
 use Rattle.settlement.specs.Events.{Event, priced, metered, closed, settled, Filing, Lawful, Rules, after_run, last_pricing, volume_after, payments_since, quarter_after, stands_as, was_closed, when}
 use Rattle.settlement.specs.Known.{party_fault, payable, period_fault, place_fault, unless_refused, volume_fault, worth}
 use Rattle.settlement.specs.Payments.{nothing}
 use Rattle.settlement.specs.Quarters.{closed_as, closing, is_closed, quote_in, standing_cents}
-use Rattle.settlement.specs.Runs.{Answered, Changes, Did, FairlyPaid, PricedAs, RightPrice, Run, begun, after, Sound, Whole, WithinBounds}
+use Rattle.settlement.specs.Runs.{AllAnswered, AllFairlyPaid, Answered, Changes, Did, FairlyPaid, PricedAs, RightPrice, Run, begun, after, Sound, Whole, WithinBounds}
 use Rattle.settlement.specs.declared.book.Book.{Book}
 use Rattle.settlement.specs.declared.fault.BookFault.{BookFault}
 use Rattle.settlement.specs.declared.fault.BookFault.TheVariants.{QuarterClosed, Metering}
 use Rattle.settlement.specs.declared.quarter.Quarter.{Quarter}
 use Rattle.settlement.specs.declared.quarter.Quarter.TheVariants.{Blank, Priced, Closed}
-use Rattle.settlement.proofs.Checks.{Accepted, Shut, closing_accepted, or_none, party_known, party_past, period_known, pricing_accepted}
+use Rattle.settlement.proofs.Checks.{Accepted, Shut, closing_accepted, or_none, party_known, period_known, pricing_accepted}
 use Rattle.settlement.proofs.Filings.{filed, right, within_bounds}
 use Rattle.settlement.proofs.Only.{only}
-use Rattle.settlement.proofs.Readings.{SameCounts, filed_counts, metered_counts, paid_counts, volumes_long}
+use Rattle.settlement.proofs.Readings.{amount_placed, quarter_placed, row_placed, volume_placed}
 use Rattle.settlement.proofs.Sums.{sum_same}
 
 abbrev Bounds : Filing → Type 0
@@ -41,8 +40,8 @@ pub record Reached (h : List Event) (b : Book) : Type 0 where
   pub closings : (p : ℕ) → is_closed (quarter_at b p) ≡ was_closed h p
   pub prices : (p : ℕ) (f : Filing) → last_pricing h p ≡ Some f → Right f
   pub bounds : (p : ℕ) (f : Filing) → last_pricing h p ≡ Some f → Bounds f
-  pub volumes : (p q : ℕ) → p < vec_len b.quarters → q < vec_len b.parties → (imbalance_at b p q).kwh ≡ volume_after h p q
-  pub payments : (q : ℕ) → q < vec_len b.parties → (paid_to b q).cents ≡ payments_since h q
+  pub volumes : (p q : ℕ) → (imbalance_at b p q).kwh ≡ volume_after h p q
+  pub payments : (q : ℕ) → (paid_to b q).cents ≡ payments_since h q
 
 -- A PLACE THAT IS WRITTEN, AND THE OTHERS
 
@@ -74,9 +73,8 @@ last_is false o f g P e new old = old e
 
 priced_run : (h : List Event) (b b' : Book) (p : ℕ) (m : Meaning) (r : Rules) (x : Quarter) → Lawful r → Accepted (in_book b) p m r x → Filed b b' p x → Reached h b → Reached (priced p m r (Ok x) ∷ h) b'
 priced_run h b b' p m r x laws a f k =
-    let qs : List Quarter = vec_items b.quarters in
-    let within : p < length qs = omega (arith, a.within, b.quarters.ok.0) in
-    let n = filed_counts b b' p x f in
+    let qs : List Quarter = b.quarters in
+    let within : p < length qs = quarter_placed b p a.within in
     let unclosed : was_closed h p ≡ false = sym (k.closings p) ∙ a.unclosed in
     let bounded : Bounds (filed m r x) = λ q e. let same : a.quote ≡ q = quote_same _ _ x a.is e in subst (λ (w : Quote). WithinBounds w.direction m w.price.cents) same (within_bounds m r a.quote laws a.quoted) in
     record {
@@ -88,8 +86,8 @@ priced_run h b b' p m r x laws a f k =
           (λ n. k.closings p'));
       prices = λ p' g e. last_is (eqb p p') _ (filed m r x) g Right e (right m r x a.quote laws a.is a.quoted) (k.prices p' g);
       bounds = λ p' g e. last_is (eqb p p') _ (filed m r x) g Bounds e bounded (k.bounds p' g);
-      volumes = λ p' q' l l'. rw f.parties (k.volumes p' q' (omega (arith, l, n.0)) (omega (arith, l', n.1)));
-      payments = λ q' l. rw f.parties (k.payments q' (omega (arith, l, n.1)));
+      volumes = λ p' q'. rw f.parties (k.volumes p' q');
+      payments = λ q'. rw f.parties (k.payments q');
     }
 
 -- CLOSING
@@ -106,9 +104,8 @@ closed_as_lem (Some f) true q e = absurd (never_priced f.quarter q e)
 
 closed_run : (h : List Event) (b b' : Book) (p : ℕ) (x : Quarter) → Shut (in_book b) p x → Filed b b' p x → Reached h b → Reached (closed p (Ok x) ∷ h) b'
 closed_run h b b' p x a f k =
-    let qs : List Quarter = vec_items b.quarters in
-    let within : p < length qs = omega (arith, a.within, b.quarters.ok.0) in
-    let n = filed_counts b b' p x f in
+    let qs : List Quarter = b.quarters in
+    let within : p < length qs = quarter_placed b p a.within in
     record {
       standings = λ p'. rw f.quarters (written qs p p' x Blank (λ y. y ≡ quarter_after (closed p (Ok x) ∷ h) p') within
           (λ s. subst (λ (w : ℕ). x ≡ quarter_after (closed p (Ok x) ∷ h) w) s
@@ -119,48 +116,46 @@ closed_run h b b' p x a f k =
           (λ n. rw (ne_eqb p p' n) (k.closings p')));
       prices = k.prices;
       bounds = k.bounds;
-      volumes = λ p' q' l l'. rw f.parties (k.volumes p' q' (omega (arith, l, n.0)) (omega (arith, l', n.1)));
-      payments = λ q' l. rw f.parties (k.payments q' (omega (arith, l, n.1)));
+      volumes = λ p' q'. rw f.parties (k.volumes p' q');
+      payments = λ q'. rw f.parties (k.payments q');
     }
 
 -- METERING
 
-metered_run : (h : List Event) (b b' : Book) (p q : ℕ) (v : Values) (i : Imbalance) → p < vec_len b.quarters → q < vec_len b.parties → i.kwh ≡ imbalance v → Metered b b' p q i → Reached h b → Reached (metered p q v (Ok i) ∷ h) b'
+metered_run : (h : List Event) (b b' : Book) (p q : ℕ) (v : Values) (i : Imbalance) → p < b.period_count → q < b.party_count → i.kwh ≡ imbalance v → Metered b b' p q i → Reached h b → Reached (metered p q v (Ok i) ∷ h) b'
 metered_run h b b' p q v i lp lq e f k =
-    let n = metered_counts b b' p q i f in
-    let rows : q < length (volumes_in b) = omega (arith, lq, b.parties.ok.0, length-map (vec_items b.parties) (λ party. vec_items party.volumes)) in
-    let places : p < length (volumes_of b q) = omega (arith, lp, volumes_long b q lq) in
+    let rows : q < length (volumes_in b) = row_placed b q lq in
+    let places : p < length (volumes_of b q) = volume_placed b p q lp lq in
     record {
       standings = λ p'. rw f.quarters (k.standings p');
       closings = λ p'. rw f.quarters (k.closings p');
       prices = k.prices;
       bounds = k.bounds;
-      volumes = λ p' q' l l'.
-          let before : (imbalance_at b p' q').kwh ≡ volume_after h p' q' = k.volumes p' q' (omega (arith, l, n.0)) (omega (arith, l', n.1)) in
+      volumes = λ p' q'.
+          let before : (imbalance_at b p' q').kwh ≡ volume_after h p' q' = k.volumes p' q' in
           rw f.volumes (written (volumes_in b) q q' (set (volumes_of b q) p i) [] (λ row. (get_or row p' balanced).kwh ≡ volume_after (metered p q v (Ok i) ∷ h) p' q') rows
           (λ s. written (volumes_of b q) p p' i balanced (λ y. y.kwh ≡ volume_after (metered p q v (Ok i) ∷ h) p' q') places
           (λ t. rw (and_from _ _ (eq-eqb p p' t) (eq-eqb q q' s)) e)
           (λ d. rw (apart p q p' q' (λ x y. d x)) (subst (λ (w : ℕ). (imbalance_at b p' w).kwh ≡ volume_after h p' q') (sym s) before)))
           (λ d. rw (apart p q p' q' (λ x y. d y)) before));
-      payments = λ q' l. rw f.paid (k.payments q' (omega (arith, l, n.1)));
+      payments = λ q'. rw f.paid (k.payments q');
     }
 
 -- SETTLING
 
-settled_run : (h : List Event) (b b' : Book) (q : ℕ) (x : Amount) → q < vec_len b.parties → Paid b b' q (record { cents = (paid_to b q).cents +ℤ x.cents }) → Reached h b → Reached (settled q (Ok x) ∷ h) b'
+settled_run : (h : List Event) (b b' : Book) (q : ℕ) (x : Amount) → q < b.party_count → Paid b b' q (record { cents = (paid_to b q).cents +ℤ x.cents }) → Reached h b → Reached (settled q (Ok x) ∷ h) b'
 settled_run h b b' q x lq f k =
-    let n = paid_counts b b' q _ f in
-    let within : q < length (payments_in b) = omega (arith, lq, b.parties.ok.0, length-map (vec_items b.parties) (λ party. party.paid)) in
+    let within : q < length (payments_in b) = amount_placed b q lq in
     record {
       standings = λ p'. rw f.quarters (k.standings p');
       closings = λ p'. rw f.quarters (k.closings p');
       prices = k.prices;
       bounds = k.bounds;
-      volumes = λ p' q' l l'. rw f.volumes (k.volumes p' q' (omega (arith, l, n.0)) (omega (arith, l', n.1)));
-      payments = λ q' l. rw f.paid (written (payments_in b) q q' (record { cents = (paid_to b q).cents +ℤ x.cents }) nothing (λ y. y.cents ≡ payments_since (settled q (Ok x) ∷ h) q') within
+      volumes = λ p' q'. rw f.volumes (k.volumes p' q');
+      payments = λ q'. rw f.paid (written (payments_in b) q q' (record { cents = (paid_to b q).cents +ℤ x.cents }) nothing (λ y. y.cents ≡ payments_since (settled q (Ok x) ∷ h) q') within
           (λ s. subst (λ (w : ℕ). (paid_to b q).cents +ℤ x.cents ≡ payments_since (settled q (Ok x) ∷ h) w) s
-          (rw (eq-eqb q q refl) (omega (arith, ints, k.payments q lq))))
-          (λ d. rw (ne_eqb q q' d) (k.payments q' (omega (arith, l, n.1)))));
+          (rw (eq-eqb q q refl) (omega (arith, ints, k.payments q))))
+          (λ d. rw (ne_eqb q q' d) (k.payments q')));
     }
 
 -- STARTING
@@ -170,16 +165,21 @@ all_same zero p x = refl
 all_same (suc n) zero x = refl
 all_same (suc n) (suc p) x = all_same n p x
 
+none_metered : (m n p q : ℕ) → get_or (get_or (replicate m (replicate n balanced)) q []) p balanced ≡ balanced
+none_metered zero n p q = refl
+none_metered (suc m) n p zero = all_same n p balanced
+none_metered (suc m) n p (suc q) = none_metered m n p q
+
 pub fresh_run : (b : Book) → Fresh b → Reached [] b
 fresh_run b f =
-    let blank : (p : ℕ) → quarter_at b p ≡ Blank = λ p. rw f.blank (all_same (vec_len b.quarters) p Blank) in
+    let blank : (p : ℕ) → quarter_at b p ≡ Blank = λ p. rw f.blank (all_same 100 p Blank) in
     record {
       standings = blank;
       closings = λ p. rw (blank p) refl;
       prices = λ p g e. let z : ◌≡◌ {A = ℕ} 0 1 = cc in absurd (omega arith);
       bounds = λ p g e. let z : ◌≡◌ {A = ℕ} 0 1 = cc in absurd (omega arith);
-      volumes = λ p q l l'. rw (f.unmetered, get_or-replicate (vec_len b.parties) q (replicate (vec_len b.quarters) balanced) [] l', all_same (vec_len b.quarters) p balanced) refl;
-      payments = λ q l. rw (f.unpaid, all_same (vec_len b.parties) q nothing) refl;
+      volumes = λ p q. rw f.unmetered (ap (λ (i : Imbalance). i.kwh) (none_metered 32 100 p q));
+      payments = λ q. rw f.unpaid (ap (λ (x : Amount). x.cents) (all_same 32 q nothing));
     }
 
 -- EVERY CALL
@@ -206,22 +206,18 @@ step h (settled q (Err f)) b b' d k = unchanged _ h b b' d.changes (record { sta
 
 -- THE ANSWER, BY THE RUN
 
-same_worth : (h : List Event) (b : Book) (q : ℕ) → q < vec_len b.parties → Reached h b → worth (in_book b) q ≡ worth (after_run (vec_len b.quarters) (vec_len b.parties) h) q
-same_worth h b q l k =
-    sum_same (vec_len b.quarters) (λ p. (imbalance_at b p q).kwh *ℤ standing_cents (quarter_at b p)) (λ p. volume_after h p q *ℤ standing_cents (quarter_after h p))
-    (λ p lp. ap (λ (v : ℤ). v *ℤ standing_cents (quarter_at b p)) (k.volumes p q lp l) ∙ ap (λ (x : Quarter). volume_after h p q *ℤ standing_cents x) (k.standings p))
+same_worth : (h : List Event) (b : Book) (q : ℕ) → Reached h b → worth (in_book b) q ≡ worth (after_run b.period_count b.party_count h) q
+same_worth h b q k =
+    sum_same b.period_count (λ p. (imbalance_at b p q).kwh *ℤ standing_cents (quarter_at b p)) (λ p. volume_after h p q *ℤ standing_cents (quarter_after h p))
+    (λ p lp. ap (λ (v : ℤ). v *ℤ standing_cents (quarter_at b p)) (k.volumes p q) ∙ ap (λ (x : Quarter). volume_after h p q *ℤ standing_cents x) (k.standings p))
 
-answered_after : (h : List Event) (e : Event) (b : Book) → Reached h b → Answered (in_book b) e → Answered (after_run (vec_len b.quarters) (vec_len b.parties) h) e
+answered_after : (h : List Event) (e : Event) (b : Book) → Reached h b → Answered (in_book b) e → Answered (after_run b.period_count b.party_count h) e
 answered_after h (priced p m r a) b k d = subst (λ (x : Quarter). PricedAs (or_next (period_fault (in_book b) p) (unless (not (is_closed x)) (QuarterClosed p))) p m r a) (k.standings p) d
 answered_after h (metered p q v a) b k d = subst (λ (x : Quarter). kwh_of a ≡ unless_fault (or_next (period_fault (in_book b) p) (or_next (party_fault (in_book b) q) (or_next (unless (not (is_closed x)) (QuarterClosed p)) (option_map Metering (metering_fault v))))) (imbalance v)) (k.standings p) d
 answered_after h (closed p a) b k d = subst (λ (x : Quarter). a ≡ unless_refused (period_fault (in_book b) p) (closing p x)) (k.standings p) d
 answered_after h (settled q a) b k d =
-    ⊎_elim
-    (λ (l : q < vec_len b.parties). d ∙ ap (unless_fault (party_fault (in_book b) q)) (ap (λ (t : ℤ). rounded t 1000 -ℤ (paid_to b q).cents) (same_worth h b q l k) ∙ ap (λ (z : ℤ). rounded (worth (after_run (vec_len b.quarters) (vec_len b.parties) h) q) 1000 -ℤ z) (k.payments q l)))
-    (λ (l : vec_len b.parties ≤ q).
-    let e = party_past (in_book b) q l in
-    d ∙ ap (λ o. unless_fault o (payable (in_book b) q)) e ∙ sym (ap (λ o. unless_fault o (payable (after_run (vec_len b.quarters) (vec_len b.parties) h) q)) e))
-    (cases_lt q (vec_len b.parties))
+    d ∙ ap (unless_fault (party_fault (in_book b) q))
+    (ap (λ (t : ℤ). rounded t 1000 -ℤ (paid_to b q).cents) (same_worth h b q k) ∙ ap (λ (z : ℤ). rounded (worth (after_run b.period_count b.party_count h) q) 1000 -ℤ z) (k.payments q))
 
 fair : (n m : ℕ) (h : List Event) (e : Event) → Answered (after_run n m h) e → FairlyPaid n m (e ∷ h)
 fair n m h (priced p s r a) d = tt
@@ -232,6 +228,10 @@ fair n m h (settled q (Ok x)) d =
     let s = passed (party_fault (after_run n m h) q) (payable (after_run n m h) q) x.cents d in
     let t : ℤ = worth (after_run n m h) q in
     rw (eq-eqb q q refl) (record { divides = omega arith; close = omega (arith, ints, s.1, (nearest_rounded t 1000 (omega arith)).close) })
+
+all_fair : (n m : ℕ) (h : List Event) → AllAnswered n m h → AllFairlyPaid n m h
+all_fair n m [] a = tt
+all_fair n m (e ∷ h) a = (fair n m h e a.0, all_fair n m h a.1)
 
 -- THE STANDING PRICE, BY THE LAST ACCEPTED PRICING
 
@@ -270,45 +270,48 @@ kept (begun b f) = fresh_run b f
 kept (after h e b b' r d) = step h e b b' d (kept r)
 
 not_moved : (b b' : Book) → b' ≡ b → SameCounts b b'
-not_moved b b' e = (ap (λ (w : Book). vec_len w.quarters) e, ap (λ (w : Book). vec_len w.parties) e)
+not_moved b b' e = (ap (λ (w : Book). w.period_count) e, ap (λ (w : Book). w.party_count) e)
 
 same_counts : (e : Event) (b b' : Book) → Changes e b b' → SameCounts b b'
-same_counts (priced p m r (Ok x)) b b' c = filed_counts b b' p x c
+same_counts (priced p m r (Ok x)) b b' c = c.counts
 same_counts (priced p m r (Err f)) b b' c = not_moved b b' c
-same_counts (metered p q v (Ok i)) b b' c = metered_counts b b' p q i c
+same_counts (metered p q v (Ok i)) b b' c = c.counts
 same_counts (metered p q v (Err f)) b b' c = not_moved b b' c
-same_counts (closed p (Ok x)) b b' c = filed_counts b b' p x c
+same_counts (closed p (Ok x)) b b' c = c.counts
 same_counts (closed p (Err f)) b b' c = not_moved b b' c
-same_counts (settled q (Ok x)) b b' c = paid_counts b b' q _ c
+same_counts (settled q (Ok x)) b b' c = c.counts
 same_counts (settled q (Err f)) b b' c = not_moved b b' c
 
 at_counts : {n n' m m' : ℕ} (P : ℕ → ℕ → Type 0) → (n' ≡ n) × (m' ≡ m) → P n m → P n' m'
 at_counts {n} {n'} {m} {m'} P s x = subst (λ (w : ℕ). P n' w) (sym s.1) (subst (λ (w : ℕ). P w m) (sym s.0) x)
 
-pub sound_after : (h : List Event) (e : Event) (b b' : Book) → Did e b b' → Reached h b → Sound (e ∷ h) b'
-sound_after h e b b' d k =
-    let s = step h e b b' d k in
-    let n = same_counts e b b' d.changes in
-    let a = answered_after h e b k d.answered in
+-- each call of the run was answered by those before it
+all_answered : {h : List Event} {b : Book} → Run h b → AllAnswered b.period_count b.party_count h
+all_answered (begun b f) = tt
+all_answered (after h e b b' r d) =
+    at_counts (λ x y. AllAnswered x y (e ∷ h)) (same_counts e b b' d.changes) (answered_after h e b (kept r) d.answered, all_answered r)
+
+sound_in : {h : List Event} {b : Book} → Run h b → Sound h b
+sound_in {h} {b} r =
+    let s = kept r in
+    let a = all_answered r in
     record {
       standings = s.standings;
       closings = s.closings;
-      priced = λ p. has_price (e ∷ h) b' p s;
-      prices = λ p g i. right_price (e ∷ h) b' p g s i;
-      bounds = λ p g q i j. s.bounds p g i q (sym (quote_of_last (e ∷ h) b' p g s i) ∙ j);
+      priced = λ p. has_price h b p s;
+      prices = λ p g i. right_price h b p g s i;
+      bounds = λ p g q i j. s.bounds p g i q (sym (quote_of_last h b p g s i) ∙ j);
       volumes = s.volumes;
       payments = s.payments;
-      answers = rw (n.0, n.1) a;
-      fair = at_counts (λ x y. FairlyPaid x y (e ∷ h)) n (fair (vec_len b.quarters) (vec_len b.parties) h e a);
+      answers = a;
+      fair = all_fair b.period_count b.party_count h a;
     }
 
 pub whole : (e : Event) (b b' : Book) → Did e b b' → Whole e b b'
-whole e b b' d = record { did = d; only = only (in_book b) e d.answered; run = λ h r. after h e b b' r d; sound = λ h r. sound_after h e b b' d (kept r) }
+whole e b b' d = record { did = d; only = only (in_book b) e d.answered; run = λ h r. after h e b b' r d; sound = λ h r. sound_in (after h e b b' r d) }
 
 pub fresh_sound : (b : Book) → Fresh b → Sound [] b
-fresh_sound b f =
-    let s = fresh_run b f in
-    record { standings = s.standings; closings = s.closings; priced = λ p. has_price [] b p s; prices = λ p g i. right_price [] b p g s i; bounds = λ p g q i j. s.bounds p g i q (sym (quote_of_last [] b p g s i) ∙ j); volumes = s.volumes; payments = s.payments; answers = tt; fair = tt }
+fresh_sound b f = sound_in (begun b f)
 
 -- AN ANSWER THAT THE BOOK GIVES, BY THE RUN
 
@@ -319,12 +322,11 @@ quarter_said b p (Err f) e h r = tt
 pub volume_said : (b : Book) (p q : ℕ) (a : Result Imbalance BookFault) → a ≡ unless_fault (place_fault (in_book b) p q) (imbalance_at b p q) → (h : List Event) → Run h b → IfOk a (λ x. x.kwh ≡ volume_after h p q)
 volume_said b p q (Ok x) e h r =
     let s = passed (place_fault (in_book b) p q) _ x e in
-    let n = or_none (period_fault (in_book b) p) (party_fault (in_book b) q) s.0 in
-    ap (λ (i : Imbalance). i.kwh) s.1 ∙ (kept r).volumes p q (period_known (in_book b) p n.0) (party_known (in_book b) q n.1)
+    ap (λ (i : Imbalance). i.kwh) s.1 ∙ (kept r).volumes p q
 volume_said b p q (Err f) e h r = tt
 
 pub payments_said : (b : Book) (q : ℕ) (a : Result Amount BookFault) → a ≡ unless_fault (party_fault (in_book b) q) (paid_to b q) → (h : List Event) → Run h b → IfOk a (λ x. x.cents ≡ payments_since h q)
 payments_said b q (Ok x) e h r =
     let s = passed (party_fault (in_book b) q) _ x e in
-    ap (λ (y : Amount). y.cents) s.1 ∙ (kept r).payments q (party_known (in_book b) q s.0)
+    ap (λ (y : Amount). y.cents) s.1 ∙ (kept r).payments q
 payments_said b q (Err f) e h r = tt

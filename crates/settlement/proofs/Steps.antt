@@ -6,7 +6,6 @@ use Rattle.metering.specs.Imbalances.{Values, imbalance, imbalance_of, kwh_of, m
 use Rattle.metering.specs.declared.fault.MeteringFault.{MeteringFault}
 use Rattle.metering.specs.declared.imbalance.Imbalance.{Imbalance}
 use Rattle.pricing.specs.Quotes.{Answer, Quoted}
-use Rattle.pricing.specs.declared.quote.Quote.{Quote}
 use Rattle.source.specs.Meanings.{Meaning}
 use Rattle.settlement.specs.Events.{Rules}
 use Rattle.settlement.specs.Known.{Known, closed_fault, party_fault, payable, period_fault, pricing_fault, unless_refused, volume_fault}
@@ -14,7 +13,7 @@ use Rattle.settlement.specs.Quarters.{closing, is_closed, meets}
 use Rattle.settlement.specs.Runs.{PricedAs}
 use Rattle.settlement.specs.declared.fault.BookFault.{BookFault}
 use Rattle.settlement.specs.declared.fault.BookFault.TheVariants.{PeriodOutOfRange, PartyOutOfRange, QuarterClosed, Metering}
-use Rattle.settlement.specs.declared.quarter.Call.TheVariants.{Price, Close}
+use Rattle.settlement.specs.declared.quarter.Call.TheVariants.{Price, Meter, Close}
 use Rattle.settlement.specs.declared.quarter.Quarter.{Quarter}
 use Rattle.settlement.specs.declared.quarter.Quarter.TheVariants.{Blank, Priced, Closed}
 use Rattle.settlement.proofs.Checks.{never, party_past, party_within, period_past, period_within}
@@ -55,10 +54,17 @@ abbrev pub carried : Result Imbalance MeteringFault → Result Imbalance BookFau
 carried (Ok i) = Ok i
 carried (Err f) = Err (Metering f)
 
-pub not_closed : (y : Quarter) → ((q : Quote) → y ≡ Closed q → ⊥) → is_closed y ≡ false
-not_closed Blank n = refl
-not_closed (Priced q) n = refl
-not_closed (Closed q) n = absurd (n q refl)
+-- a quarter that takes a volume is not closed
+pub takes_volume : (p : ℕ) (y x : Quarter) → Ok x ≡ meets p y Meter → is_closed y ≡ false
+takes_volume p Blank x e = refl
+takes_volume p (Priced q) x e = refl
+takes_volume p (Closed q) x e = never x _ e
+
+-- one that refuses it is
+pub refuses_volume : (p : ℕ) (y : Quarter) (f : BookFault) → Err f ≡ meets p y Meter → (is_closed y ≡ true) × (f ≡ QuarterClosed p)
+refuses_volume p Blank f e = never Blank f (sym e)
+refuses_volume p (Priced q) f e = never (Priced q) f (sym e)
+refuses_volume p (Closed q) f e = (refl, cc)
 
 module _ (k : Known) (p q : ℕ) (v : Values) where
   after_period : p < k.periods → volume_fault k p q v ≡ or_next (party_fault k q) (or_next (closed_fault k p) (option_map Metering (metering_fault v)))

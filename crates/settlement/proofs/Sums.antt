@@ -1,11 +1,10 @@
 -- Sums of volume times price: how large they are, and one period more.
-use Rattle.std.proofs.Common.{◌≡◌, ℕ, zero, suc, ◌+◌, ◌*◌, ◌<◌, ◌≤◌, true, false, ℤ, pos, negsuc, ◌+ℤ◌, ◌-ℤ◌, ◌*ℤ◌, nat_abs, refl, add-one, arith, w64, SFits}
+use Rattle.std.proofs.Common.{◌≡◌, ℕ, zero, suc, ◌+◌, ◌*◌, ◌<◌, ◌≤◌, ℤ, ◌+ℤ◌, ◌*ℤ◌, nat_abs, refl, ap, ◌∙◌, add-one, arith, w64, SFits, to_z, of_z}
 use borrow.Author.Differences.{ints}
-use lib.Signed.{lt_z, quot_z}
-use Rattle.std.proofs.lemmas.Int.{unsigned_abs-mul}
+use Rattle.std.proofs.lemmas.Int.{to_z-of_z, unsigned_abs-mul}
 use Rattle.std.proofs.lemmas.Nat.{mul-le}
 use Rattle.units.proofs.Rounds.{nearest_rounded}
-use Rattle.units.specs.Rounding.{half_up, rounded}
+use Rattle.units.specs.Rounding.{rounded}
 use Rattle.settlement.specs.Known.{sum_to}
 use Rattle.settlement.specs.Quarters.{standing_cents}
 use Rattle.settlement.specs.declared.quarter.Quarter.{Quarter}
@@ -38,16 +37,9 @@ sum_same (suc n) f g h =
     let k = h n (omega arith) in
     cc
 
--- T / 1000, as the code divides it
-pub cents_below : (t : ℤ) → lt_z t (pos 0) ≡ true → quot_z (t -ℤ pos 500) (pos 1000) ≡ rounded t 1000
-unfolding rounded half_up
-cents_below (pos n) e = absurd (grind (arith, ints))
-cents_below (negsuc n) e = omega (arith, ints)
-
-pub cents_above : (t : ℤ) → lt_z t (pos 0) ≡ false → quot_z (t +ℤ pos 500) (pos 1000) ≡ rounded t 1000
-unfolding rounded half_up
-cents_above (pos n) e = omega (arith, ints)
-cents_above (negsuc n) e = absurd (grind (arith, ints))
-
-pub cents_bound : (t : ℤ) → nat_abs t ≤ 100 * 149_998_500_000_000 → nat_abs (rounded t 1000) ≤ 15_000_000_000_000
-cents_bound t h = omega (arith, ints, (nearest_rounded t 1000 (omega arith)).close)
+-- the cents that T comes to, and their size, where T is handed over as the machine's number
+pub due_small : (t r : ℤ) → nat_abs t ≤ 100 * 149_998_500_000_000 → r ≡ rounded (to_z w64 (of_z w64 t)) 1000 → (r ≡ rounded t 1000) × (nat_abs r ≤ 15_000_000_000_000)
+due_small t r h e =
+    let f : SFits w64 t = omega (arith, ints) in
+    let s : r ≡ rounded t 1000 = e ∙ ap (λ (z : ℤ). rounded z 1000) (to_z-of_z w64 t f) in
+    (s, omega (arith, ints, s, (nearest_rounded t 1000 (omega arith)).close))

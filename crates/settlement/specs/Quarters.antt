@@ -5,7 +5,7 @@ use Rattle.pricing.specs.declared.quote.Quote.{Quote}
 use Rattle.settlement.specs.declared.fault.BookFault.{BookFault}
 use Rattle.settlement.specs.declared.fault.BookFault.TheVariants.{QuarterClosed, QuarterBlank, NoQuote}
 use Rattle.settlement.specs.declared.quarter.Call.{Call}
-use Rattle.settlement.specs.declared.quarter.Call.TheVariants.{Price, Close}
+use Rattle.settlement.specs.declared.quarter.Call.TheVariants.{Price, Meter, Close}
 use Rattle.settlement.specs.declared.quarter.Quarter.{Quarter}
 use Rattle.settlement.specs.declared.quarter.Quarter.TheVariants.{Blank, Priced, Closed}
 
@@ -48,4 +48,7 @@ abbrev pub meets : ℕ → Quarter → Call → Result Quarter BookFault
 meets p Blank (Price a) = filing p a
 meets p (Priced q) (Price a) = filing p a
 meets p (Closed q) (Price a) = Err (QuarterClosed p)
+meets p Blank Meter = Ok Blank
+meets p (Priced q) Meter = Ok (Priced q)
+meets p (Closed q) Meter = Err (QuarterClosed p)
 meets p x Close = closing p x

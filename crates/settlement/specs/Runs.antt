@@ -1,5 +1,5 @@
 -- Runs of calls over one book, and what is promised of every run.
-use Rattle.std.specs.Prelude.{◌≡◌, ℕ, ◌*◌, ◌<◌, ◌≤◌, ◌&&◌, List, [], ◌∷◌, ℤ, pos, ◌+ℤ◌, ◌-ℤ◌, ◌*ℤ◌, Some, None, Ok, Err, Option, Result, is_some, nat_le, unsigned_abs, vec_len}
+use Rattle.std.specs.Prelude.{◌≡◌, ℕ, ◌*◌, ◌≤◌, ◌&&◌, List, [], ◌∷◌, ℤ, pos, ◌+ℤ◌, ◌-ℤ◌, ◌*ℤ◌, Some, None, Ok, Err, Option, Result, is_some, nat_le, unsigned_abs}
 use Rattle.figures.specs.Gathering.{Gives}
 use Rattle.figures.specs.Sides.{side_of}
 use Rattle.figures.specs.declared.quarter_figures.Figures.{Figures}
@@ -25,8 +25,6 @@ use Rattle.settlement.specs.declared.book.Book.{Book}
 use Rattle.settlement.specs.declared.fault.BookFault.{BookFault}
 use Rattle.settlement.specs.declared.fault.CountFault.{CountFault}
 use Rattle.settlement.specs.declared.fault.CountFault.TheVariants.{Periods, Parties}
-use Rattle.settlement.specs.declared.fault.StartFault.{StartFault}
-use Rattle.settlement.specs.declared.fault.StartFault.TheVariants.{Count, Memory}
 use Rattle.settlement.specs.declared.quarter.Quarter.{Quarter}
 
 -- ANSWERS
@@ -115,8 +113,8 @@ WithinBounds Up m p = Bounded dir.Up (side_of dir.Up m.slots) p
 WithinBounds Down m p = Bounded dir.Down (side_of dir.Down m.slots) p
 WithinBounds Avoided m p = Unit {0}
 
--- where the last call is an accepted settling, its party's payments are at most half a cent from its latest volumes at
--- the standing prices
+-- where the last call of h is an accepted settling, its party's payments are at most half a cent from its latest volumes
+-- at the standing prices
 abbrev pub FairlyPaid : ℕ → ℕ → List Event → Type 0
 FairlyPaid n m [] = Unit {0}
 FairlyPaid n m (priced p s r a ∷ h) = Unit {0}
@@ -125,10 +123,15 @@ FairlyPaid n m (closed p a ∷ h) = Unit {0}
 FairlyPaid n m (settled q (Err f) ∷ h) = Unit {0}
 FairlyPaid n m (settled q (Ok x) ∷ h) = HalfCent (payments_since (settled q (Ok x) ∷ h) q) (record { n = worth (after_run n m (settled q (Ok x) ∷ h)) q; d = 1000 })
 
--- the last call was answered by what the calls before it say
-abbrev pub AnsweredAfter : ℕ → ℕ → List Event → Type 0
-AnsweredAfter n m [] = Unit {0}
-AnsweredAfter n m (e ∷ h) = Answered (after_run n m h) e
+-- each settling, when it was the last call, left its party fairly paid
+abbrev pub AllFairlyPaid : ℕ → ℕ → List Event → Type 0
+AllFairlyPaid n m [] = Unit {0}
+AllFairlyPaid n m (e ∷ h) = FairlyPaid n m (e ∷ h) × AllFairlyPaid n m h
+
+-- each call was answered by what the calls before it say
+abbrev pub AllAnswered : ℕ → ℕ → List Event → Type 0
+AllAnswered n m [] = Unit {0}
+AllAnswered n m (e ∷ h) = Answered (after_run n m h) e × AllAnswered n m h
 
 -- what is promised after the calls h
 pub record Sound (h : List Event) (b : Book) : Type 0 where
@@ -142,12 +145,14 @@ pub record Sound (h : List Event) (b : Book) : Type 0 where
   pub prices : (p : ℕ) (f : Filing) → last_pricing h p ≡ Some f → RightPrice f (quarter_at b p)
   -- the price lies between the weighted mean and the extreme of the formed prices, by what was told at the last one
   pub bounds : (p : ℕ) (f : Filing) (q : Quote) → last_pricing h p ≡ Some f → quote_in (quarter_at b p) ≡ Some q → WithinBounds q.direction f.source q.price.cents
-  pub volumes : (p q : ℕ) → p < vec_len b.quarters → q < vec_len b.parties → (imbalance_at b p q).kwh ≡ volume_after h p q
-  pub payments : (q : ℕ) → q < vec_len b.parties → (paid_to b q).cents ≡ payments_since h q
-  -- the last call was accepted or refused as the calls before it say, and answered so
-  pub answers : AnsweredAfter (vec_len b.quarters) (vec_len b.parties) h
-  -- a party that was settled last has what it is due, to half a cent
-  pub fair : FairlyPaid (vec_len b.quarters) (vec_len b.parties) h
+  -- a party's volume is the latest
+  pub volumes : (p q : ℕ) → (imbalance_at b p q).kwh ≡ volume_after h p q
+  -- what a party was paid is the sum of its settlings
+  pub payments : (q : ℕ) → (paid_to b q).cents ≡ payments_since h q
+  -- each call was accepted or refused as the calls before it say, and answered so
+  pub answers : AllAnswered b.period_count b.party_count h
+  -- a party that was settled had then what it was due, to half a cent
+  pub fair : AllFairlyPaid b.period_count b.party_count h
 
 -- the call e made b' of b as it says, no other answer was open to it, and whatever calls led to b, the run that ends with
 -- e is sound
@@ -166,13 +171,13 @@ count_fault n m = or_next (unless (nat_le 1 n && nat_le n 100) Periods) (unless 
 -- a book with these counts, from which every run begins
 pub record Begins (n m : ℕ) (b : Book) : Type 0 where
   pub counts : count_fault n m ≡ None
-  pub periods : vec_len b.quarters ≡ n
-  pub parties : vec_len b.parties ≡ m
+  pub periods : b.period_count ≡ n
+  pub parties : b.party_count ≡ m
   pub fresh : Fresh b
   pub run : Run [] b
   pub sound : Sound [] b
 
-abbrev pub Started : ℕ → ℕ → Result Book StartFault → Type 0
+-- a book is started, or refused by its counts
+abbrev pub Started : ℕ → ℕ → Result Book CountFault → Type 0
 Started n m (Ok b) = Begins n m b
-Started n m (Err (Count f)) = count_fault n m ≡ Some f
-Started n m (Err Memory) = count_fault n m ≡ None
+Started n m (Err f) = count_fault n m ≡ Some f

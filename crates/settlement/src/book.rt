@@ -1,5 +1,5 @@
 // The book itself, and what always holds of it.
-ghost use Rattle.std.specs.Prelude.{◌≡◌, ◌<◌, ◌≤◌, All, IfErr, OnOk, vec_items, vec_len};
+ghost use Rattle.std.specs.Prelude.{◌≡◌, ◌<◌, ◌≤◌, IfErr, OnOk, length};
 ghost use Rattle.settlement.specs.declared.fault.BookFault.TheVariants.{PeriodOutOfRange, PartyOutOfRange};
 
 use crate::fault::BookFault;
@@ -10,22 +10,31 @@ pub mod calls;
 pub mod questions;
 pub mod start;
 
-/// The settlement of one area and day: each party has an imbalance in each quarter.
+/// The most periods of a book.
+pub const MOST_PERIODS: usize = 100;
+
+/// The most parties of a book.
+pub const MOST_PARTIES: usize = 32;
+
+/// The settlement of one area and day: each party has an imbalance in each quarter. Its places are fixed, so it
+/// takes no heap.
 #[derive(Drop)]
 pub struct Book {
-    quarters: Vec<Quarter>,
-    parties: Vec<Party>,
-    ghost counts: { (1 ≤ vec_len quarters) × (vec_len quarters ≤ 100) × (1 ≤ vec_len parties) × (vec_len parties ≤ 32) },
-    ghost metered: { All (λ party. vec_len party.volumes ≡ vec_len quarters) (vec_items parties) },
+    quarters: [Quarter; MOST_PERIODS],
+    parties: [Party; MOST_PARTIES],
+    period_count: usize,
+    party_count: usize,
+    ghost places: { (100 ≤ length quarters) × (32 ≤ length parties) },
+    ghost counts: { (1 ≤ period_count) × (period_count ≤ 100) × (1 ≤ party_count) × (party_count ≤ 32) },
 }
 
 impl Book {
     // Refused with 9 where the book has no such period.
     fn has_period(&self, period: usize) -> Result<(), BookFault>
-        ensures ok { OnOk result (period < vec_len self.now.quarters) }
-        ensures err { IfErr result (λ fault. (fault ≡ PeriodOutOfRange period) × (vec_len self.now.quarters ≤ period)) }
+        ensures within { OnOk result (period < self.now.period_count) }
+        ensures past { IfErr result (λ fault. (fault ≡ PeriodOutOfRange period) × (self.now.period_count ≤ period)) }
     {
-        if period < self.quarters.len() {
+        if period < self.period_count {
             Ok(())
         } else {
             Err(BookFault::PeriodOutOfRange { period })
@@ -34,10 +43,10 @@ impl Book {
 
     // Refused with 10 where the book has no such party.
     fn has_party(&self, party: usize) -> Result<(), BookFault>
-        ensures ok { OnOk result (party < vec_len self.now.parties) }
-        ensures err { IfErr result (λ fault. (fault ≡ PartyOutOfRange party) × (vec_len self.now.parties ≤ party)) }
+        ensures within { OnOk result (party < self.now.party_count) }
+        ensures past { IfErr result (λ fault. (fault ≡ PartyOutOfRange party) × (self.now.party_count ≤ party)) }
     {
-        if party < self.parties.len() {
+        if party < self.party_count {
             Ok(())
         } else {
             Err(BookFault::PartyOutOfRange { party })

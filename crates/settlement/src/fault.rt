@@ -2,11 +2,9 @@
 ghost use Rattle.std.specs.Prelude.{◌≡◌};
 ghost use Rattle.settlement.specs.Refusals.{book_number, book_place, count_number, count_place};
 ghost use Rattle.settlement.specs.declared.fault.BookFault.TheVariants.{Metering};
-ghost use Rattle.settlement.specs.declared.fault.StartFault.TheVariants.{Memory};
 
 use metering::fault::MeteringFault;
 use pricing::fault::QuoteFault;
-use std::alloc::AllocError;
 use units::refusal::Refusal;
 
 #[derive(Clone, Copy, Debug)]
@@ -82,20 +80,5 @@ impl Refusal for CountFault {
             CountFault::Periods => 0,
             CountFault::Parties => 1,
         }
-    }
-}
-
-/// Why a book is not started. Want of memory has no number.
-#[derive(Clone, Copy, PartialEq, Eq, Debug)]
-pub enum StartFault {
-    Count(CountFault),
-    Memory,
-}
-
-impl From<AllocError> for StartFault {
-    ghost from_gives = { λ _ r. r ≡ Memory };
-
-    fn from(_error: AllocError) -> StartFault {
-        StartFault::Memory
     }
 }

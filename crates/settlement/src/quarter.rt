@@ -32,9 +32,10 @@ impl Quarter {
     }
 }
 
-// What a quarter is asked to do: to file a quote, which its source may refuse, or to close.
+// What a quarter is asked to do: to file a quote, which its source may refuse, to take a volume, or to close.
 #[derive(Clone, Copy)]
 pub(crate) enum Call {
     Price(Result<Quote, QuoteFault>),
+    Meter,
     Close,
 }

@@ -1,12 +1,11 @@
 // The four calls that change a book: pricing, metering, closing and settling.
-ghost use Rattle.std.specs.Prelude.{◌≡◌, ◌*◌, ◌<◌, ◌≤◌, unsigned_abs, vec_len};
+ghost use Rattle.std.specs.Prelude.{◌≡◌, ◌*◌, ◌<◌, ◌≤◌, unsigned_abs};
 ghost use Rattle.metering.specs.Imbalances.{values_of};
-ghost use Rattle.settlement.specs.Books.{FiledAs, in_book, quarter_at};
+ghost use Rattle.settlement.specs.Books.{Turned, in_book, quarter_at};
 ghost use Rattle.settlement.specs.Events.{priced, metered, closed, settled};
 ghost use Rattle.settlement.specs.Known.{worth};
 ghost use Rattle.settlement.specs.Quarters.{meets};
 ghost use Rattle.settlement.specs.Runs.{Whole};
-ghost use Rattle.units.specs.Rounding.{rounded};
 
 use crate::book::Book;
 use crate::fault::BookFault;
@@ -17,50 +16,48 @@ use pricing::quote::quote_source;
 use pricing::rulebook::Rulebook;
 use source::price_source::PriceSource;
 use units::euros::Amount;
-
-// Thousandths of a cent as whole cents, by signed division; a half goes away from zero.
-fn whole_cents(thousandths: i64) -> i64
-    requires { unsigned_abs thousandths ≤ 100 * 149_998_500_000_000 }
-    ensures value { result ≡ rounded thousandths 1000 }
-    ensures bound { unsigned_abs result ≤ 15_000_000_000_000 }
-{
-    if thousandths < 0 {
-        (thousandths - 500) / 1000
-    } else {
-        (thousandths + 500) / 1000
-    }
-}
+use units::fraction::Fraction;
 
 impl Book {
     // The quarter's standing and the call, matched together; the quarter is changed in place.
     fn turn(&mut self, period: usize, call: Call) -> Result<Quarter, BookFault>
-        requires { period < vec_len self.old.quarters }
+        requires { period < self.old.period_count }
         ensures answers { result ≡ meets period (quarter_at self.old period) call }
-        ensures changes { FiledAs self.old self.new period result }
+        ensures changes { Turned self.old self.new period call result }
     {
-        match (self.quarters[period], call) {
-            (Quarter::Closed(_), _) => Err(BookFault::QuarterClosed { period }),
-            (_, Call::Price(Ok(quote))) => {
-                self.quarters[period] = Quarter::Priced(quote);
-                Ok(Quarter::Priced(quote))
+        let quarters = &mut self.quarters;
+        let quarter = &mut quarters[period];
+        match (*quarter, call) {
+            (Quarter::Blank, Call::Price(Ok(quote)))
+            | (Quarter::Priced(_), Call::Price(Ok(quote))) => {
+                *quarter = Quarter::Priced(quote);
+                Ok(*quarter)
             }
-            (_, Call::Price(Err(fault))) => Err(BookFault::NoQuote { period, fault }),
+            (Quarter::Blank, Call::Price(Err(fault)))
+            | (Quarter::Priced(_), Call::Price(Err(fault))) => {
+                Err(BookFault::NoQuote { period, fault })
+            }
+            (Quarter::Blank, Call::Meter) | (Quarter::Priced(_), Call::Meter) => Ok(*quarter),
             (Quarter::Blank, Call::Close) => Err(BookFault::QuarterBlank { period }),
             (Quarter::Priced(quote), Call::Close) => {
-                self.quarters[period] = Quarter::Closed(quote);
-                Ok(Quarter::Closed(quote))
+                *quarter = Quarter::Closed(quote);
+                Ok(*quarter)
             }
+            (Quarter::Closed(_), Call::Price(_))
+            | (Quarter::Closed(_), Call::Meter)
+            | (Quarter::Closed(_), Call::Close) => Err(BookFault::QuarterClosed { period }),
         }
     }
 
     // T: the party's volumes at the standing prices, in thousandths of a cent.
     fn worth(&self, party: usize) -> i64
-        requires { party < vec_len self.now.parties }
-        ensures value { result ≡ worth (in_book self.now) party }
+        requires { party < self.now.party_count }
+        ensures in_all { result ≡ worth (in_book self.now) party }
         ensures bound { unsigned_abs result ≤ 100 * 149_998_500_000_000 }
     {
+        let quarters = &self.quarters[..self.period_count];
         let mut sum = 0;
-        for (quarter, volume) in self.quarters.iter().zip(self.parties[party].volumes.iter()) {
+        for (quarter, volume) in quarters.iter().zip(self.parties[party].volumes.iter()) {
             sum += volume.kwh() * quarter.cents();
         }
         sum
@@ -93,11 +90,11 @@ impl Book {
     {
         self.has_period(period)?;
         self.has_party(party)?;
-        if let Quarter::Closed(_) = self.quarters[period] {
-            return Err(BookFault::QuarterClosed { period });
-        }
+        self.turn(period, Call::Meter)?;
         let imbalance = values.imbalance()?;
-        self.parties[party].volumes[period] = imbalance;
+        let parties = &mut self.parties;
+        let metered = &mut parties[party];
+        metered.volumes[period] = imbalance;
         Ok(imbalance)
     }
 
@@ -116,9 +113,15 @@ impl Book {
         ensures { Whole (settled party result) self.old self.new }
     {
         self.has_party(party)?;
-        let due = whole_cents(self.worth(party));
-        let before = self.parties[party].paid;
-        self.parties[party].paid = Amount { cents: due };
+        let thousandths = Fraction {
+            n: self.worth(party),
+            d: 1000,
+        };
+        let due = thousandths.nearest();
+        let parties = &mut self.parties;
+        let settled = &mut parties[party];
+        let before = settled.paid;
+        settled.paid = Amount { cents: due };
         Ok(Amount {
             cents: due - before.cents,
         })

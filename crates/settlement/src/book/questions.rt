@@ -18,10 +18,8 @@ impl Book {
         ensures answers { result ≡ unless_fault (period_fault (in_book self.now) period) (quarter_at self.now period) }
         ensures as_the_run_says { (h : List Event) → Run h self.now → IfOk result (λ x. x ≡ quarter_after h period) }
     {
-        self.quarters
-            .get(period)
-            .copied()
-            .ok_or(BookFault::PeriodOutOfRange { period })
+        self.has_period(period)?;
+        Ok(self.quarters[period])
     }
 
     /// The party's imbalance in the quarter. Refused with 9, then 10.
@@ -31,7 +29,8 @@ impl Book {
     {
         self.has_period(period)?;
         self.has_party(party)?;
-        Ok(self.parties[party].volumes[period])
+        let volumes = &self.parties[party].volumes;
+        Ok(volumes[period])
     }
 
     /// All that the party was paid so far. Refused with 10.
@@ -39,9 +38,7 @@ impl Book {
         ensures answers { result ≡ unless_fault (party_fault (in_book self.now) party) (paid_to self.now party) }
         ensures as_the_run_says { (h : List Event) → Run h self.now → IfOk result (λ x. x.cents ≡ payments_since h party) }
     {
-        self.parties
-            .get(party)
-            .map(|balance_party| balance_party.paid)
-            .ok_or(BookFault::PartyOutOfRange { party })
+        self.has_party(party)?;
+        Ok(self.parties[party].paid)
     }
 }

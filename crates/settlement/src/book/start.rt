@@ -1,26 +1,31 @@
 // Starting a book.
+ghost use Rattle.std.specs.Prelude.{◌≡◌, Result};
 ghost use Rattle.settlement.specs.Runs.{Started};
+ghost use Rattle.settlement.specs.declared.book.Book.{Book};
+ghost use Rattle.settlement.specs.declared.fault.CountFault.{CountFault};
 
-use crate::book::Book;
-use crate::fault::{CountFault, StartFault};
-use crate::party::blank_parties;
+use crate::book::{Book, MOST_PARTIES, MOST_PERIODS};
+use crate::fault::CountFault;
+use crate::party::Party;
 use crate::quarter::Quarter;
-use std::alloc::Global;
 
 impl Book {
-    /// A book of blank quarters, in which nothing is metered and nothing paid. No later call allocates.
-    pub fn start(heap: Global, periods: usize, parties: usize) -> Result<Book, StartFault>
-        ensures { Started periods parties result }
+    /// A book of blank quarters, in which nothing is metered and nothing paid. Refused with 14.
+    pub fn start(periods: usize, parties: usize) -> Result<Book, CountFault>
+        ensures started { Started periods parties result }
+        ensures only_answer { (r : Result Book CountFault) → Started periods parties r → r ≡ result }
     {
-        if !(1..=100).contains(&periods) {
-            return Err(StartFault::Count(CountFault::Periods));
+        if !(1..=MOST_PERIODS).contains(&periods) {
+            return Err(CountFault::Periods);
         }
-        if !(1..=32).contains(&parties) {
-            return Err(StartFault::Count(CountFault::Parties));
+        if !(1..=MOST_PARTIES).contains(&parties) {
+            return Err(CountFault::Parties);
         }
         Ok(Book {
-            quarters: vec![in heap; Quarter::Blank; periods]?,
-            parties: blank_parties(heap, periods, parties)?,
+            quarters: [Quarter::Blank; MOST_PERIODS],
+            parties: [Party::blank(); MOST_PARTIES],
+            period_count: periods,
+            party_count: parties,
         })
     }
 }

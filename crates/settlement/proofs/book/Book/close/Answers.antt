@@ -9,10 +9,10 @@ use Rattle.settlement.proofs.book.Book.close.Goals as goal
 pub returns-in_err-has_period : goal.returns-in_err-has_period
 returns-in_err-has_period c =
     let w = err_from_is_err_and c.from_residual.result c.from_residual.ensures.1 in
-    let e = c.in_err-has_period.ensures.err in
+    let e = c.in_err-has_period.ensures.past in
     rw (w.1, w.2, e.0) (whole _ _ _ (record { lawful = tt; answered = close_past (in_book c.args.self.now) c.args.period e.1; changes = refl }))
 
 pub returns : goal.returns
 returns c =
     whole (closed c.args.period c.turn.result) c.args.self.now c.turn.new.self
-    (record { lawful = tt; answered = close_answered (in_book c.args.self.now) c.args.period c.turn.result c.in_ok-has_period.ensures.ok c.turn.ensures.answers; changes = c.turn.ensures.changes })
+    (record { lawful = tt; answered = close_answered (in_book c.args.self.now) c.args.period c.turn.result c.in_ok-has_period.ensures.within c.turn.ensures.answers; changes = c.turn.ensures.changes })

@@ -1,4 +1,4 @@
-use Rattle.std.proofs.Common.{arith, ◌≡◌}
+use Rattle.std.proofs.Common.{arith, ◌≡◌, Ok, get_or}
 use Rattle.std.proofs.lemmas.Grind.{common_steps}
 use Rattle.metering.specs.Imbalances.{unless_fault}
 use Rattle.settlement.specs.Books.{in_book, paid_to}
@@ -8,5 +8,7 @@ use Rattle.settlement.proofs.book.Book.payments.Goals as goal
 
 pub returns : goal.returns
 returns c =
-    let e : c.ok_or.result ≡ unless_fault (party_fault (in_book c.args.self.now) c.args.party) (paid_to c.args.self.now c.args.party) = grind (arith, common_steps) in
-    record { answers = e; as_the_run_says = payments_said c.args.self.now c.args.party c.ok_or.result e }
+    let b = c.args.self.now in
+    let q = c.args.party in
+    let e : Ok (get_or b.parties q c.index-self-party.result).paid ≡ unless_fault (party_fault (in_book b) q) (paid_to b q) = grind (arith, common_steps) in
+    record { answers = e; as_the_run_says = payments_said b q _ e }

@@ -11,7 +11,7 @@ returns-in_err-has_period g c =
     let r = c.args.rulebook.now in
     let rules : Rules = record { code = g.R.Rulebook.CODE; net = g.R.Rulebook.NET; ruling = g.R.Rulebook.ruling r } in
     let w = err_from_is_err_and c.from_residual.result c.from_residual.ensures.1 in
-    let e = c.in_err-has_period.ensures.err in
+    let e = c.in_err-has_period.ensures.past in
     rw (w.1, w.2, e.0) (whole _ _ _ (record { lawful = g.met.R.Rulebook.keeps_laws r; answered = price_past (in_book c.args.self.now) c.args.period (g.S.PriceSource.means c.args.source.now) rules e.1; changes = refl }))
 
 pub returns : goal.returns
@@ -22,6 +22,6 @@ returns g c =
     whole (priced c.args.period m rules c.turn.result) c.args.self.now c.turn.new.self
     (record {
       lawful = g.met.R.Rulebook.keeps_laws r;
-      answered = price_answered (in_book c.args.self.now) c.args.period m rules c.turn.result c.quote_source-answer.result c.in_ok-has_period.ensures.ok c.quote_source-answer.ensures.value c.turn.ensures.answers;
+      answered = price_answered (in_book c.args.self.now) c.args.period m rules c.turn.result c.quote_source-answer.result c.in_ok-has_period.ensures.within c.quote_source-answer.ensures.value c.turn.ensures.answers;
       changes = c.turn.ensures.changes;
     })

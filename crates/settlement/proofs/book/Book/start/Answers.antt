@@ -1,13 +1,12 @@
-use Rattle.std.proofs.Common.{◌≡◌, ℕ, ◌≤◌, ◌&&◌, leb, replicate, None, vec_len, sym, ap, ◌∙◌, rules}
+use Rattle.std.proofs.Common.{◌≡◌, ℕ, ◌≤◌, ◌&&◌, leb, replicate, None, Ok, refl, ap, ◌∙◌, rules}
 use Rattle.std.proofs.lemmas.Bool.{and_from, le-leb}
-use Rattle.std.proofs.lemmas.Result.{err_from_is_err_and}
-use Rattle.metering.specs.Imbalances.{balanced, or_next, unless}
+use Rattle.metering.specs.Imbalances.{or_next, unless}
 use Rattle.settlement.specs.Books.{Fresh}
-use Rattle.settlement.specs.Payments.{nothing}
-use Rattle.settlement.specs.Runs.{begun, count_fault}
+use Rattle.settlement.specs.Runs.{Begins, Started, begun, count_fault}
+use Rattle.settlement.specs.declared.book.Book.{Book}
 use Rattle.settlement.specs.declared.fault.CountFault.TheVariants.{Periods, Parties}
-use Rattle.settlement.specs.declared.quarter.Quarter.TheVariants.{Blank}
 use Rattle.settlement.proofs.Kept.{fresh_sound}
+use Rattle.settlement.proofs.Starts.{started_once}
 use Rattle.settlement.proofs.book.Book.start.Goals as goal
 
 counts : (n m : ℕ) → 1 ≤ n → n ≤ 100 → 1 ≤ m → m ≤ 32 → count_fault n m ≡ None
@@ -15,18 +14,16 @@ counts n m a b d e =
     ap (λ t. or_next (unless t Periods) (unless (leb 1 m && leb m 32) Parties)) (and_from _ _ (le-leb 1 n a) (le-leb n 100 b))
     ∙ ap (λ t. unless t Parties) (and_from _ _ (le-leb 1 m d) (le-leb m 32 e))
 
-pub returns-in_err-blank_parties : goal.returns-in_err-blank_parties
-returns-in_err-blank_parties c =
-    let w = err_from_is_err_and c.from_residual-in_err-blank_parties.result c.from_residual-in_err-blank_parties.ensures.1 in
-    rw (w.1, w.2) (counts c.args.periods c.args.parties (search rules) (search rules) (search rules) (search rules))
+begins : (n m : ℕ) (b : Book) → count_fault n m ≡ None → b.period_count ≡ n → b.party_count ≡ m → Fresh b → Begins n m b
+begins n m b c p q f = record { counts = c; periods = p; parties = q; fresh = f; run = begun b f; sound = fresh_sound b f }
 
 pub returns : goal.returns
 returns c =
-    let v = c.in_ok-vec in
-    let ps = c.in_ok-blank_parties in
-    let f : Fresh (record { quarters = v.field-0; parties = ps.field-0; counts = _; metered = _ }) = record {
-      blank = v.ensures.items_if_clones_equal (λ y h. h) ∙ ap (λ n. replicate n Blank) (sym v.ensures.len);
-      unmetered = ps.ensures.volumes ∙ ap (λ n. replicate n (replicate c.args.periods balanced)) (sym ps.ensures.count) ∙ ap (λ n. replicate (vec_len ps.field-0) (replicate n balanced)) (sym v.ensures.len);
-      unpaid = ps.ensures.paid ∙ ap (λ n. replicate n nothing) (sym ps.ensures.count);
-    } in
-    record { counts = counts c.args.periods c.args.parties (search rules) (search rules) (search rules) (search rules); periods = v.ensures.len; parties = ps.ensures.count; fresh = f; run = begun _ f; sound = fresh_sound _ f }
+    let n = c.args.periods in
+    let m = c.args.parties in
+    let s : Started n m (Ok _) = begins n m _ (counts n m (search rules) (search rules) (search rules) (search rules)) refl refl (record {
+      blank = search rules;
+      unmetered = ap (replicate 32) c.blank.ensures.unmetered;
+      unpaid = ap (replicate 32) c.blank.ensures.unpaid;
+    }) in
+    record { started = s; only_answer = λ r t. started_once n m (Ok _) r s t }
