@@ -4,7 +4,6 @@ use std::ffi::c_void;
 use std::sync::atomic::{AtomicUsize, Ordering};
 
 static CALLS: AtomicUsize = AtomicUsize::new(0);
-static BYTES: AtomicUsize = AtomicUsize::new(0);
 
 extern "C" {
     fn __real_malloc(size: usize) -> *mut c_void;
@@ -16,16 +15,12 @@ extern "C" {
 #[no_mangle]
 pub unsafe extern "C" fn __wrap_malloc(size: usize) -> *mut c_void {
     CALLS.fetch_add(1, Ordering::Relaxed);
-    BYTES.fetch_add(size, Ordering::Relaxed);
     __real_malloc(size)
 }
 
-/// How often `work` allocates, and how many bytes in all.
-pub fn allocated(work: impl FnOnce()) -> (usize, usize) {
-    let before = (CALLS.load(Ordering::Relaxed), BYTES.load(Ordering::Relaxed));
+/// How often `work` allocates.
+pub fn allocated(work: impl FnOnce()) -> usize {
+    let before = CALLS.load(Ordering::Relaxed);
     work();
-    (
-        CALLS.load(Ordering::Relaxed) - before.0,
-        BYTES.load(Ordering::Relaxed) - before.1,
-    )
+    CALLS.load(Ordering::Relaxed) - before
 }

@@ -1,6 +1,6 @@
 //! The proved library's functions.
 //!
-//! A slice is passed as a pointer and a length, and the allocator of `fumeliosa_day` takes no place.
+//! A slice is passed as a pointer and a length.
 
 #[repr(C)]
 #[derive(Clone, Copy, Debug, PartialEq, Eq, Default)]
@@ -30,7 +30,7 @@ pub struct Day {
 extern "C" {
     fn fumeliosa_quarter(bytes: *const u8, len: usize) -> Quarter;
     fn fumeliosa_rewrite(bytes: *const u8, len: usize, out: *mut u8, out_len: usize) -> usize;
-    fn fumeliosa_day(
+    fn fumeliosa_bench_day(
         sheets: *const u8,
         sheets_len: usize,
         ends: *const usize,
@@ -62,7 +62,7 @@ pub fn day(
 ) -> Day {
     // SAFETY: the function reads the first two slices, writes the last two, and none overlap.
     unsafe {
-        fumeliosa_day(
+        fumeliosa_bench_day(
             sheets.as_ptr(),
             sheets.len(),
             ends.as_ptr(),

@@ -1,12 +1,13 @@
 -- The day as a whole, from what each of its steps leaves.
-use Rattle.std.proofs.Common.{◌≡◌, ℕ, suc, ◌-◌, ◌<◌, ◌≤◌, Bool, true, false, cond, ◌&&◌, eqb, ltb, ⊎_elim, List, [], length, get_or, replicate, map, ℤ, pos, ◌*ℤ◌, Result, vec_items, vec_len, sym, refl, ap, ◌∙◌, subst, arith}
+use Rattle.std.proofs.Common.{◌≡◌, ℕ, suc, ◌-◌, ◌<◌, ◌≤◌, Bool, true, false, cond, ◌&&◌, eqb, ltb, ⊎_elim, List, [], length, get_or, replicate, map, ℤ, pos, ◌*ℤ◌, Result, sym, refl, ap, ◌∙◌, subst, arith}
 use Rattle.std.specs.List.{count_by}
 use Rattle.std.proofs.lemmas.Bool.{and_parts, both_ways, and_from, cases_Bool, cases_lt, eq-eqb, eqb-true, ltb-true}
-use Rattle.std.proofs.lemmas.List.{get_or-replicate, get_or_past}
+use Rattle.std.proofs.lemmas.List.{get_or-take, length-take-le}
 use Rattle.std.proofs.lemmas.List.FromFn.{fill_by_all, get_or-map-range_with_len, length-map-range_with_len}
 use Rattle.metering.specs.Imbalances.{balanced, imbalance}
 use Rattle.metering.specs.declared.imbalance.Imbalance.{Imbalance}
-use Rattle.settlement.specs.Books.{imbalance_at, in_book, payments_in, volumes_in}
+use Rattle.units.specs.declared.euros.Amount.{Amount}
+use Rattle.settlement.specs.Books.{SameCounts, imbalance_at, in_book, payments_in, volumes_in}
 use Rattle.settlement.specs.Events.{metered}
 use Rattle.settlement.specs.Known.{Known, payable, sum_to, worth}
 use Rattle.settlement.specs.Payments.{nothing}
@@ -16,9 +17,9 @@ use Rattle.settlement.specs.declared.book.Book.{Book}
 use Rattle.settlement.specs.declared.fault.BookFault.{BookFault}
 use Rattle.settlement.specs.declared.quarter.Quarter.{Quarter}
 use Rattle.settlement.specs.declared.quarter.Quarter.TheVariants.{Blank, Priced, Closed}
-use Rattle.settlement.proofs.Kept.{all_same}
+use Rattle.settlement.proofs.Kept.{all_same, none_metered}
 use Rattle.settlement.proofs.Sums.{sum_same}
-use Rattle.exports.specs.Days.{Alike, Buffers, Settled, has_price, QuarterOf, QuartersOf, meter_values, metered_all, metered_late, payments_over, settled_first, sheet_at, unmetered}
+use Rattle.exports.specs.BenchDays.{Alike, Buffers, Settled, has_price, QuarterOf, QuartersOf, meter_values, metered_all, metered_late, payments_over, quarters_in, settled_first, sheet_at, unmetered}
 use Rattle.exports.proofs.Metering.{Took, took}
 
 -- WHAT IS KNOWN ALIKE
@@ -27,7 +28,7 @@ along : (k l m : Known) → Alike k l → Alike l m → Alike k m
 along k l m a b = record {
   periods = a.periods ∙ b.periods;
   parties = a.parties ∙ b.parties;
-  quarter = λ p. a.quarter p ∙ b.quarter p;
+  quarter = λ p x. a.quarter p (omega (arith, b.periods)) ∙ b.quarter p x;
   volume = λ p q x y. a.volume p q (omega (arith, b.periods)) (omega (arith, b.parties)) ∙ b.volume p q x y;
   paid = λ q y. a.paid q (omega (arith, b.parties)) ∙ b.paid q y;
 }
@@ -35,7 +36,7 @@ along k l m a b = record {
 same_worth : (k l : Known) (q : ℕ) → Alike k l → q < l.parties → worth k q ≡ worth l q
 same_worth k l q a y =
     ap (λ n. sum_to n (λ p. k.volume p q *ℤ standing_cents (k.quarter p))) a.periods
-    ∙ sum_same l.periods _ _ (λ p x. let v = a.volume p q x y in let s = a.quarter p in cc)
+    ∙ sum_same l.periods _ _ (λ p x. let v = a.volume p q x y in let s = a.quarter p x in cc)
 
 same_payable : (k l : Known) (q : ℕ) → Alike k l → q < l.parties → payable k q ≡ payable l q
 same_payable k l q a y = let w = same_worth k l q a y in let p = a.paid q y in cc
@@ -85,16 +86,17 @@ settled_alike n k l a = record {
 -- THE STEPS
 
 -- a book in which the quarters alone were changed since the start
-priced_only : (n m : ℕ) (b b' : Book) → Begins n m b → b'.parties ≡ b.parties → vec_len b'.quarters ≡ n → Alike (in_book b') (unmetered m (vec_items b'.quarters))
+priced_only : (n m : ℕ) (b b' : Book) → Begins n m b → b'.parties ≡ b.parties → SameCounts b b' → Alike (in_book b') (unmetered m (quarters_in b'))
 priced_only n m b b' g e c =
-    let rows : volumes_in b' ≡ replicate (vec_len b.parties) (replicate (vec_len b.quarters) balanced) = ap (λ ps. map (λ party. vec_items party.volumes) (vec_items ps)) e ∙ g.fresh.unmetered in
-    let amounts : payments_in b' ≡ replicate (vec_len b.parties) nothing = ap (λ ps. map (λ party. party.paid) (vec_items ps)) e ∙ g.fresh.unpaid in
+    let long : length (quarters_in b') ≡ b'.period_count = length-take-le b'.period_count b'.quarters (omega (arith, b'.counts.1, b'.places.0)) in
+    let rows : volumes_in b' ≡ replicate 32 (replicate 100 balanced) = ap (λ ps. map (λ party. party.volumes) ps) e ∙ g.fresh.unmetered in
+    let amounts : payments_in b' ≡ replicate 32 nothing = ap (λ ps. map (λ party. party.paid) ps) e ∙ g.fresh.unpaid in
     record {
-      periods = b'.quarters.ok.0;
-      parties = ap vec_len e ∙ g.parties;
-      quarter = λ p. refl;
-      volume = λ p q x y. let l : q < vec_len b.parties = omega (arith, g.parties) in rw (rows, get_or-replicate (vec_len b.parties) q (replicate (vec_len b.quarters) balanced) [] l, all_same (vec_len b.quarters) p balanced) refl;
-      paid = λ q y. rw (amounts, all_same (vec_len b.parties) q nothing) refl;
+      periods = sym long;
+      parties = c.1 ∙ g.parties;
+      quarter = λ p x. sym (get_or-take b'.period_count b'.quarters p Blank (omega (arith, long)));
+      volume = λ p q x y. rw rows (ap (λ (i : Imbalance). i.kwh) (none_metered 32 100 p q));
+      paid = λ q y. rw amounts (ap (λ (x : Amount). x.cents) (all_same 32 q nothing));
     }
 
 not_closed : (s : List ℕ) (x : Quarter) → QuarterOf s x → is_closed x ≡ false
@@ -102,29 +104,25 @@ not_closed s Blank h = refl
 not_closed s (Priced q) h = refl
 not_closed s (Closed q) h = absurd h
 
-unclosed : (sheets ends : List ℕ) (quarters : List Quarter) (p : ℕ) → QuartersOf sheets ends quarters → is_closed (get_or quarters p Blank) ≡ false
-unclosed sheets ends quarters p o =
-    ⊎_elim
-    (λ (l : p < length ends). not_closed (sheet_at sheets ends p) (get_or quarters p Blank) (o.each p l))
-    (λ (l : length ends ≤ p). rw (get_or_past quarters p Blank (omega (arith, o.count))) refl)
-    (cases_lt p (length ends))
+unclosed : (sheets ends : List ℕ) (quarters : List Quarter) (p : ℕ) → QuartersOf sheets ends quarters → p < length ends → is_closed (get_or quarters p Blank) ≡ false
+unclosed sheets ends quarters p o l = not_closed (sheet_at sheets ends p) (get_or quarters p Blank) (o.each p l)
 
 -- the late value of party 0 in the last period
-took_late : (n : ℕ) (b b' : Book) → vec_len b.quarters ≡ n → Took b b' (n - 1) 0 (imbalance (meter_values (n - 1) 0 (pos 65))) → Alike (in_book b') (metered_late (in_book b))
+took_late : (n : ℕ) (b b' : Book) → b.period_count ≡ n → Took b b' (n - 1) 0 (imbalance (meter_values (n - 1) 0 (pos 65))) → Alike (in_book b') (metered_late (in_book b))
 took_late n b b' e t =
-    let test : ℕ → ℕ → Bool = λ p q. (eqb (suc p) (vec_len b.quarters)) && (eqb q 0) in
+    let test : ℕ → ℕ → Bool = λ p q. (eqb (suc p) (b.period_count)) && (eqb q 0) in
     record {
-      periods = ap vec_len t.quarters;
-      parties = t.parties;
-      quarter = λ p. ap (λ v. get_or (vec_items v) p Blank) t.quarters;
+      periods = t.counts.0;
+      parties = t.counts.1;
+      quarter = λ p x. ap (λ qs. get_or qs p Blank) t.quarters;
       volume = λ p q x y.
           ⊎_elim
           (λ (h : test p q ≡ true).
-          let s = and_parts (eqb (suc p) (vec_len b.quarters)) (eqb q 0) h in
-          let a : n - 1 ≡ p = omega (arith, e, eqb-true (suc p) (vec_len b.quarters) s.0) in
+          let s = and_parts (eqb (suc p) (b.period_count)) (eqb q 0) h in
+          let a : n - 1 ≡ p = omega (arith, e, eqb-true (suc p) (b.period_count) s.0) in
           let z : 0 ≡ q = sym (eqb-true q 0 s.1) in
           rw h (subst (λ w. (imbalance_at b' p w).kwh ≡ imbalance (meter_values p w (pos 65))) z (subst (λ w. (imbalance_at b' w 0).kwh ≡ imbalance (meter_values w 0 (pos 65))) a t.here)))
-          (λ (h : test p q ≡ false). rw h (t.others p q (λ a z. both_ways (test p q) h (and_from _ _ (eq-eqb (suc p) (vec_len b.quarters) (omega arith)) (eq-eqb q 0 (sym z))))))
+          (λ (h : test p q ≡ false). rw h (t.others p q (λ a z. both_ways (test p q) h (and_from _ _ (eq-eqb (suc p) (b.period_count) (omega arith)) (eq-eqb q 0 (sym z))))))
           (cases_Bool (test p q));
       paid = λ q y. ap (λ ps. (get_or ps q nothing).cents) t.paid;
     }
@@ -138,9 +136,10 @@ pub record Steps (sheets ends : List ℕ) (m : ℕ) (before after : Buffers) (n 
   pub corrected : Book
   pub answer : Result Imbalance BookFault
   pub begins : Begins (length ends) m started
-  pub prices : QuartersOf sheets ends (vec_items quoted.quarters)
+  pub prices : QuartersOf sheets ends (quarters_in quoted)
   pub parties : quoted.parties ≡ started.parties
-  pub many : n ≡ count_by has_price (vec_items quoted.quarters)
+  pub counts : SameCounts started quoted
+  pub many : n ≡ count_by has_price (quarters_in quoted)
   pub all : Alike (in_book measured) (metered_all (in_book quoted))
   pub first : after.first ≡ payments_over (in_book measured) before.first
   pub settled : Alike (in_book paid) (settled_first (length before.first) (in_book measured))
@@ -148,21 +147,22 @@ pub record Steps (sheets ends : List ℕ) (m : ℕ) (before after : Buffers) (n 
   pub second : after.second ≡ payments_over (in_book corrected) before.second
 
 module _ (sheets ends : List ℕ) (m : ℕ) (before after : Buffers) (n : ℕ) (s : Steps sheets ends m before after n) where
-  at_first : Alike (in_book s.measured) (metered_all (unmetered m (vec_items s.quoted.quarters)))
-  at_first = along _ _ _ s.all (metered_alike _ _ (priced_only (length ends) m s.started s.quoted s.begins s.parties (s.quoted.quarters.ok.0 ∙ s.prices.count)))
+  at_first : Alike (in_book s.measured) (metered_all (unmetered m (quarters_in s.quoted)))
+  at_first = along _ _ _ s.all (metered_alike _ _ (priced_only (length ends) m s.started s.quoted s.begins s.parties s.counts))
 
-  at_last : Alike (in_book s.corrected) (metered_late (settled_first (length before.first) (metered_all (unmetered m (vec_items s.quoted.quarters)))))
+  at_last : Alike (in_book s.corrected) (metered_late (settled_first (length before.first) (metered_all (unmetered m (quarters_in s.quoted)))))
   at_last =
       let known = along _ _ _ s.settled (settled_alike (length before.first) _ _ at_first) in
-      let e : vec_len s.paid.quarters ≡ length ends = known.periods ∙ s.prices.count in
-      let within : length ends - 1 < vec_len s.paid.quarters = omega (arith, e, s.paid.counts.0) in
-      let open_quarter = ap is_closed (known.quarter (length ends - 1)) ∙ unclosed sheets ends (vec_items s.quoted.quarters) (length ends - 1) s.prices in
+      let e : s.paid.period_count ≡ length ends = known.periods ∙ s.prices.count in
+      let within : length ends - 1 < s.paid.period_count = omega (arith, e, s.paid.counts.0) in
+      let last : length ends - 1 < length ends = omega (arith, e, s.paid.counts.0) in
+      let open_quarter = ap is_closed (known.quarter (length ends - 1) (omega (arith, s.prices.count))) ∙ unclosed sheets ends (quarters_in s.quoted) (length ends - 1) s.prices last in
       let t = took s.paid s.corrected (length ends - 1) 0 (pos 65) s.answer within s.paid.counts.2 (omega arith) open_quarter s.late in
       along _ _ _ (took_late (length ends) s.paid s.corrected e t) (late_alike _ _ known)
 
   pub as_settled : Settled sheets ends m before after (record { started = true; refusal = 0; place = 0; priced = n })
   as_settled = record {
-    quarters = vec_items s.quoted.quarters;
+    quarters = quarters_in s.quoted;
     prices = s.prices;
     answer = ap (λ k. record { started = true; refusal = 0; place = 0; priced = k }) s.many;
     first = s.first ∙ same_payments _ _ before.first at_first;

@@ -1,11 +1,10 @@
 -- The meter values of the day are taken, and what each metering leaves.
-use Rattle.std.proofs.Common.{◌≡◌, ℕ, ◌+◌, ◌*◌, ◌<◌, ◌≤◌, ⊎_elim, true, false, [], ◌∷◌, length, get_or, set, ℤ, pos, ◌+ℤ◌, ◌-ℤ◌, None, Ok, Err, Result, nat_abs, vec_items, vec_len, sym, refl, ap, ◌∙◌, subst, arith}
+use Rattle.std.proofs.Common.{◌≡◌, ℕ, ◌+◌, ◌*◌, ◌<◌, ◌≤◌, ⊎_elim, true, false, [], ◌∷◌, length, get_or, set, ℤ, pos, ◌+ℤ◌, ◌-ℤ◌, None, Ok, Err, Result, nat_abs, sym, refl, ap, ◌∙◌, subst, arith}
 use borrow.Author.Differences.{ints}
 use Rattle.std.proofs.lemmas.Bool.{cases_eq, le-leb}
-use Rattle.std.proofs.lemmas.List.{length-map}
 use Rattle.metering.specs.Imbalances.{Values, balanced, imbalance, in_bounds, metering_fault, unless_fault}
 use Rattle.metering.specs.declared.imbalance.Imbalance.{Imbalance}
-use Rattle.settlement.specs.Books.{Metered, imbalance_at, in_book, payments_in, quarter_at, volumes_in, volumes_of}
+use Rattle.settlement.specs.Books.{Metered, SameCounts, imbalance_at, in_book, payments_in, quarter_at, volumes_in, volumes_of}
 use Rattle.settlement.specs.Events.{metered}
 use Rattle.settlement.specs.Known.{Known, volume_fault}
 use Rattle.settlement.specs.Quarters.{is_closed}
@@ -13,8 +12,8 @@ use Rattle.settlement.specs.Runs.{Whole}
 use Rattle.settlement.specs.declared.book.Book.{Book}
 use Rattle.settlement.specs.declared.fault.BookFault.{BookFault}
 use Rattle.settlement.proofs.Checks.{never, party_within, period_within}
-use Rattle.settlement.proofs.Readings.{metered_counts, volumes_long}
-use Rattle.exports.specs.Days.{meter_values}
+use Rattle.settlement.proofs.Readings.{row_placed, volume_placed}
+use Rattle.exports.specs.BenchDays.{meter_values}
 use Rattle.settlement.proofs.Kept.{written}
 
 within : (z : ℤ) → nat_abs z ≤ 5_000_000 → in_bounds z ≡ true
@@ -34,19 +33,19 @@ no_fault k p q v lp lq c m = simp (period_within k p lp, party_within k q lq, c,
 
 -- b' is b, but that the imbalance of the party q in p is of z kWh
 pub record Took (b b' : Book) (p q : ℕ) (z : ℤ) : Type 0 where
+  pub counts : SameCounts b b'
   pub quarters : b'.quarters ≡ b.quarters
-  pub parties : vec_len b'.parties ≡ vec_len b.parties
   pub paid : payments_in b' ≡ payments_in b
   pub here : (imbalance_at b' p q).kwh ≡ z
   pub others : (p' q' : ℕ) → (p ≡ p' → q ≡ q' → ⊥) → (imbalance_at b' p' q').kwh ≡ (imbalance_at b p' q').kwh
 
-took_as : (b b' : Book) (p q : ℕ) (i : Imbalance) (z : ℤ) → p < vec_len b.quarters → q < vec_len b.parties → i.kwh ≡ z → Metered b b' p q i → Took b b' p q z
+took_as : (b b' : Book) (p q : ℕ) (i : Imbalance) (z : ℤ) → p < b.period_count → q < b.party_count → i.kwh ≡ z → Metered b b' p q i → Took b b' p q z
 took_as b b' p q i z lp lq e f =
-    let rows : q < length (volumes_in b) = omega (arith, lq, b.parties.ok.0, length-map (vec_items b.parties) (λ party. vec_items party.volumes)) in
-    let places : p < length (volumes_of b q) = omega (arith, lp, volumes_long b q lq) in
+    let rows : q < length (volumes_in b) = row_placed b q lq in
+    let places : p < length (volumes_of b q) = volume_placed b p q lp lq in
     record {
+      counts = f.counts;
       quarters = f.quarters;
-      parties = (metered_counts b b' p q i f).1;
       paid = f.paid;
       here =
           rw f.volumes (written (volumes_in b) q q (set (volumes_of b q) p i) [] (λ row. (get_or row p balanced).kwh ≡ z) rows
@@ -60,7 +59,7 @@ took_as b b' p q i z lp lq e f =
           (λ n. refl));
     }
 
-answered : (b b' : Book) (p q : ℕ) (v : Values) (a : Result Imbalance BookFault) → p < vec_len b.quarters → q < vec_len b.parties → volume_fault (in_book b) p q v ≡ None → Whole (metered p q v a) b b' → Took b b' p q (imbalance v)
+answered : (b b' : Book) (p q : ℕ) (v : Values) (a : Result Imbalance BookFault) → p < b.period_count → q < b.party_count → volume_fault (in_book b) p q v ≡ None → Whole (metered p q v a) b b' → Took b b' p q (imbalance v)
 answered b b' p q v (Ok i) lp lq n w =
     let e : Ok i.kwh ≡ unless_fault (volume_fault (in_book b) p q v) (imbalance v) = w.did.answered in
     let s : Ok i.kwh ≡ unless_fault {F = BookFault} None (imbalance v) = e ∙ ap (λ o. unless_fault o (imbalance v)) n in
@@ -70,7 +69,7 @@ answered b b' p q v (Err f) lp lq n w =
     never (imbalance v) f (sym (e ∙ ap (λ o. unless_fault o (imbalance v)) n))
 
 -- the values of the day are taken where the book has the period and the party, and the quarter is not closed
-pub took : (b b' : Book) (p q : ℕ) (late : ℤ) (a : Result Imbalance BookFault) → p < vec_len b.quarters → q < vec_len b.parties → nat_abs late ≤ 1_000 → is_closed (quarter_at b p) ≡ false → Whole (metered p q (meter_values p q late) a) b b' → Took b b' p q (imbalance (meter_values p q late))
+pub took : (b b' : Book) (p q : ℕ) (late : ℤ) (a : Result Imbalance BookFault) → p < b.period_count → q < b.party_count → nat_abs late ≤ 1_000 → is_closed (quarter_at b p) ≡ false → Whole (metered p q (meter_values p q late) a) b b' → Took b b' p q (imbalance (meter_values p q late))
 took b b' p q late a lp lq ll c w =
     answered b b' p q (meter_values p q late) a lp lq
     (no_fault (in_book b) p q (meter_values p q late) lp lq c (passed p q late (omega (arith, lp, b.counts.1)) (omega (arith, lq, b.counts.3)) ll))
@@ -78,16 +77,16 @@ took b b' p q late a lp lq ll c w =
 
 -- the periods before i are metered for all parties, and the period i for those before j
 pub record MeteredTo (k b : Book) (i j : ℕ) : Type 0 where
+  pub counts : SameCounts k b
   pub quarters : b.quarters ≡ k.quarters
-  pub parties : vec_len b.parties ≡ vec_len k.parties
   pub paid : payments_in b ≡ payments_in k
-  pub before : (p q : ℕ) → p < i → q < vec_len k.parties → (imbalance_at b p q).kwh ≡ imbalance (meter_values p q (pos 0))
+  pub before : (p q : ℕ) → p < i → q < k.party_count → (imbalance_at b p q).kwh ≡ imbalance (meter_values p q (pos 0))
   pub row : (q : ℕ) → q < j → (imbalance_at b i q).kwh ≡ imbalance (meter_values i q (pos 0))
 
 pub one_more : (k b b' : Book) (i j : ℕ) → MeteredTo k b i j → Took b b' i j (imbalance (meter_values i j (pos 0))) → MeteredTo k b' i (j + 1)
 one_more k b b' i j m t = record {
+  counts = (t.counts.0 ∙ m.counts.0, t.counts.1 ∙ m.counts.1);
   quarters = t.quarters ∙ m.quarters;
-  parties = t.parties ∙ m.parties;
   paid = t.paid ∙ m.paid;
   before = λ p q l h. t.others p q (λ e f. omega arith) ∙ m.before p q l h;
   row = λ q l.
@@ -97,10 +96,10 @@ one_more k b b' i j m t = record {
       (cases_eq j q);
 }
 
-pub next_period : (k b : Book) (i j : ℕ) → vec_len k.parties ≤ j → MeteredTo k b i j → MeteredTo k b (i + 1) 0
+pub next_period : (k b : Book) (i j : ℕ) → k.party_count ≤ j → MeteredTo k b i j → MeteredTo k b (i + 1) 0
 next_period k b i j l m = record {
+  counts = m.counts;
   quarters = m.quarters;
-  parties = m.parties;
   paid = m.paid;
   before = λ p q h g.
       ⊎_elim

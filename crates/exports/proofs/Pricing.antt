@@ -1,18 +1,18 @@
 -- What each pricing leaves in the book.
-use Rattle.std.proofs.Common.{◌≡◌, ℕ, ◌+◌, ◌-◌, ◌<◌, ◌≤◌, ◌≢◌, Bool, true, false, cond, leb, ⊎_elim, List, [], length, get_or, replicate, Some, None, Ok, Err, Option, Result, is_ok, vec_items, vec_len, sym, refl, ap, ◌∙◌, subst, arith, add-one, get_or-set_other}
+use Rattle.std.proofs.Common.{◌≡◌, ℕ, zero, suc, ◌+◌, ◌-◌, ◌<◌, ◌≤◌, ◌≢◌, Bool, true, false, cond, leb, ⊎_elim, List, [], ◌∷◌, length, get_or, replicate, Some, None, Ok, Err, Option, Result, is_ok, take, sym, refl, ap, ◌∙◌, subst, arith, add-one, get_or-set_other}
 use denote.Bor.{Bor}
 use Rattle.std.specs.List.{count_by, slice_range}
 use Rattle.std.specs.Option.{unwrap_or}
 use Rattle.std.specs.Slice.{IsGetRangeResult}
 use Rattle.std.proofs.lemmas.Bool.{cases_eq, le-leb, lt-leb}
-use Rattle.std.proofs.lemmas.List.{length-set}
+use Rattle.std.proofs.lemmas.List.{get_or-take, length-set, length-take-le}
 use Rattle.std.proofs.lemmas.List.Folds.{sum_by-replicate}
-use Rattle.std.proofs.lemmas.List.Sums.{sum_by-set}
+use Rattle.std.proofs.lemmas.List.Sums.{sum_by-cons, sum_by-set}
 use Rattle.pricing.specs.Quotes.{Answer, Quoted}
 use Rattle.pricing.specs.Rulings.{finnish}
 use Rattle.pricing.specs.declared.fault.QuoteFault.{QuoteFault}
 use Rattle.pricing.specs.declared.ruling.Net.{Net}
-use Rattle.settlement.specs.Books.{Filed, Fresh, in_book, quarter_at}
+use Rattle.settlement.specs.Books.{Filed, Fresh, SameCounts, in_book, quarter_at}
 use Rattle.settlement.specs.Events.{Rules, priced}
 use Rattle.settlement.specs.Known.{Known, pricing_fault}
 use Rattle.settlement.specs.Quarters.{filing}
@@ -23,9 +23,10 @@ use Rattle.settlement.specs.declared.quarter.Quarter.{Quarter}
 use Rattle.settlement.specs.declared.quarter.Quarter.TheVariants.{Blank, Priced}
 use Rattle.settlement.proofs.Kept.{all_same}
 use Rattle.settlement.proofs.Checks.{never, period_within, pricing_accepted}
+use Rattle.settlement.proofs.Readings.{quarter_placed}
 use Rattle.sheet.specs.Sheets.{sheet_meaning}
 use Rattle.source.specs.Meanings.{Meaning}
-use Rattle.exports.specs.Days.{QuarterOf, has_price, sheet_at, sheet_start}
+use Rattle.exports.specs.BenchDays.{QuarterOf, QuartersOf, has_price, quarters_in, sheet_at, sheet_start}
 use Rattle.settlement.proofs.Kept.{written}
 
 none_either : (t : Bool) (x : List ℕ) → x ≡ [] → cond t x [] ≡ []
@@ -47,10 +48,10 @@ by_finnish n = record { code = 5; net = n; ruling = finnish }
 -- b' is b, but that the quarter i, which was blank, is priced from the sheet s, if it has a quote
 pub record PricedOne (b b' : Book) (i : ℕ) (s : List ℕ) (x : Result Quarter BookFault) : Type 0 where
   pub parties : b'.parties ≡ b.parties
-  pub count : length (vec_items b'.quarters) ≡ length (vec_items b.quarters)
+  pub counts : SameCounts b b'
   pub here : QuarterOf s (quarter_at b' i)
   pub others : (p : ℕ) → (i ≡ p → ⊥) → quarter_at b' p ≡ quarter_at b p
-  pub more : count_by has_price (vec_items b'.quarters) ≡ count_by has_price (vec_items b.quarters) + cond (is_ok x) 1 0
+  pub more : count_by has_price b'.quarters ≡ count_by has_price b.quarters + cond (is_ok x) 1 0
 
 no_fault : (k : Known) (i : ℕ) → i < k.periods → k.quarter i ≡ Blank → pricing_fault k i ≡ None
 no_fault k i l e = simp (period_within k i l, e)
@@ -59,20 +60,20 @@ refused_by : (i : ℕ) (m : Meaning) (r : Rules) (f : BookFault) (a : Answer) �
 refused_by i m r f (Ok q) h e = never (Priced q) f (sym e)
 refused_by i m r f (Err g) h e = (g, h)
 
-pub priced_one : (b b' : Book) (i : ℕ) (s : List ℕ) (n : Net) (x : Result Quarter BookFault) → i < vec_len b.quarters → quarter_at b i ≡ Blank → Whole (priced i (sheet_meaning s) (by_finnish n) x) b b' → PricedOne b b' i s x
+pub priced_one : (b b' : Book) (i : ℕ) (s : List ℕ) (n : Net) (x : Result Quarter BookFault) → i < b.period_count → quarter_at b i ≡ Blank → Whole (priced i (sheet_meaning s) (by_finnish n) x) b b' → PricedOne b b' i s x
 priced_one b b' i s n (Ok x) l e w =
     let a = pricing_accepted (in_book b) i (sheet_meaning s) (by_finnish n) x w.did.answered in
     let f : Filed b b' i x = w.did.changes in
-    let place : i < length (vec_items b.quarters) = omega (arith, l, b.quarters.ok.0) in
-    let one = sum_by-set (λ y. cond (has_price y) 1 0) (vec_items b.quarters) i x Blank place in
+    let place : i < length b.quarters = quarter_placed b i l in
+    let one = sum_by-set (λ y. cond (has_price y) 1 0) b.quarters i x Blank place in
     let counts : Quarter → ℕ = λ y. cond (has_price y) 1 0 in
     let before : counts (quarter_at b i) ≡ 0 = ap counts e in
     let after : counts x ≡ 1 = ap counts a.is in
     record {
       parties = f.parties;
-      count = ap length f.quarters ∙ length-set (vec_items b.quarters) i x;
-      here = rw f.quarters (written (vec_items b.quarters) i i x Blank (QuarterOf s) place (λ t. rw a.is a.quoted) (λ d. absurd (d refl)));
-      others = λ p d. let ne : p ≢ i = λ t. d (sym t) in rw f.quarters (get_or-set_other (vec_items b.quarters) i p x Blank ne);
+      counts = f.counts;
+      here = rw f.quarters (written b.quarters i i x Blank (QuarterOf s) place (λ t. rw a.is a.quoted) (λ d. absurd (d refl)));
+      others = λ p d. let ne : p ≢ i = λ t. d (sym t) in rw f.quarters (get_or-set_other b.quarters i p x Blank ne);
       more = rw f.quarters (omega (arith, one, before, after));
     }
 priced_one b b' i s n (Err f) l e w =
@@ -80,7 +81,7 @@ priced_one b b' i s n (Err f) l e w =
     let g : QuotedAt i (sheet_meaning s) (by_finnish n) (Err f) = subst (λ o. PricedAs o i (sheet_meaning s) (by_finnish n) (Err f)) (no_fault (in_book b) i l e) w.did.answered in
     rw same (record {
       parties = refl;
-      count = refl;
+      counts = (refl, refl);
       here = rw e (refused_by i (sheet_meaning s) (by_finnish n) f g.quote g.quoted g.answer);
       others = λ p d. refl;
       more = omega arith;
@@ -89,16 +90,23 @@ priced_one b b' i s n (Err f) l e w =
 -- the quarters before i are priced from their sheets, and those from i on are blank
 pub record PricedTo (sheets ends : List ℕ) (k b : Book) (i n start : ℕ) : Type 0 where
   pub parties : b.parties ≡ k.parties
-  pub count : length (vec_items b.quarters) ≡ length ends
+  pub counts : SameCounts k b
+  pub count : b.period_count ≡ length ends
   pub done : (p : ℕ) → p < i → QuarterOf (sheet_at sheets ends p) (quarter_at b p)
   pub blank : (p : ℕ) → i ≤ p → quarter_at b p ≡ Blank
-  pub many : n ≡ count_by has_price (vec_items b.quarters)
+  pub many : n ≡ count_by has_price b.quarters
+  pub few : n ≤ i
   pub begins : start ≡ sheet_start ends i
+
+one_at_most : (t : Bool) → cond t 1 0 ≤ 1
+one_at_most true = omega arith
+one_at_most false = omega arith
 
 pub one_more : (sheets ends : List ℕ) (k b b' : Book) (i n m start end : ℕ) (x : Result Quarter BookFault) → end ≡ get_or ends i 0 → m ≡ n + cond (is_ok x) 1 0 → PricedTo sheets ends k b i n start → PricedOne b b' i (sheet_at sheets ends i) x → PricedTo sheets ends k b' (i + 1) m end
 one_more sheets ends k b b' i n m start end x a c t o = record {
   parties = o.parties ∙ t.parties;
-  count = o.count ∙ t.count;
+  counts = (o.counts.0 ∙ t.counts.0, o.counts.1 ∙ t.counts.1);
+  count = o.counts.0 ∙ t.count;
   done = λ p l.
       ⊎_elim
       (λ (e : i ≡ p). subst (λ w. QuarterOf (sheet_at sheets ends w) (quarter_at b' w)) e o.here)
@@ -106,20 +114,46 @@ one_more sheets ends k b b' i n m start end x a c t o = record {
       (cases_eq i p);
   blank = λ p l. o.others p (λ e. omega arith) ∙ t.blank p (omega arith);
   many = omega (arith, o.more, t.many, c);
+  few = omega (arith, t.few, c, one_at_most (is_ok x));
   begins = rw add-one a;
 }
 
 no_prices : (n : ℕ) → count_by has_price (replicate n Blank) ≡ 0
 no_prices n = omega (arith, sum_by-replicate (λ y. cond (has_price y) 1 0) n Blank)
 
-pub none_priced : (sheets ends : List ℕ) (b : Book) → Fresh b → vec_len b.quarters ≡ length ends → PricedTo sheets ends b b 0 0 0
+pub none_priced : (sheets ends : List ℕ) (b : Book) → Fresh b → b.period_count ≡ length ends → PricedTo sheets ends b b 0 0 0
 none_priced sheets ends b f e =
-    let blank : (p : ℕ) → quarter_at b p ≡ Blank = λ p. rw f.blank (all_same (vec_len b.quarters) p Blank) in
+    let blank : (p : ℕ) → quarter_at b p ≡ Blank = λ p. rw f.blank (all_same 100 p Blank) in
     record {
       parties = refl;
-      count = sym b.quarters.ok.0 ∙ e;
+      counts = (refl, refl);
+      count = e;
       done = λ p l. absurd (omega arith);
       blank = λ p l. blank p;
-      many = sym (ap (count_by has_price) f.blank ∙ no_prices (vec_len b.quarters));
+      many = sym (ap (count_by has_price) f.blank ∙ no_prices 100);
+      few = omega arith;
       begins = refl;
     }
+
+-- quarters that are blank have no price, so those past the periods count for nothing
+none_among : (xs : List Quarter) → ((p : ℕ) → get_or xs p Blank ≡ Blank) → count_by has_price xs ≡ 0
+none_among [] h = refl
+none_among (x ∷ xs) h =
+    let e : x ≡ Blank = h 0 in
+    rw e (none_among xs (λ p. h (suc p)))
+
+count_front : (n : ℕ) (xs : List Quarter) → ((p : ℕ) → n ≤ p → get_or xs p Blank ≡ Blank) → count_by has_price (take n xs) ≡ count_by has_price xs
+count_front zero xs h = sym (none_among xs (λ p. h p (omega arith)))
+count_front (suc n) [] h = refl
+count_front (suc n) (x ∷ xs) h =
+    let counts : Quarter → ℕ = λ y. cond (has_price y) 1 0 in
+    sum_by-cons counts x (take n xs) ∙ ap (λ m. counts x + m) (count_front n xs (λ p l. h (suc p) (omega arith))) ∙ sym (sum_by-cons counts x xs)
+
+pub all_priced : (sheets ends : List ℕ) (k b : Book) (i n start : ℕ) → length ends ≤ i → i ≤ length ends → PricedTo sheets ends k b i n start → QuartersOf sheets ends (quarters_in b)
+all_priced sheets ends k b i n start l g t = record {
+  count = length-take-le b.period_count b.quarters (omega (arith, b.counts.1, b.places.0)) ∙ t.count;
+  each = λ p h. subst (QuarterOf (sheet_at sheets ends p)) (sym (get_or-take b.period_count b.quarters p Blank (omega (arith, t.count)))) (t.done p (omega arith));
+}
+
+pub all_counted : (sheets ends : List ℕ) (k b : Book) (i n start : ℕ) → i ≤ length ends → PricedTo sheets ends k b i n start → n ≡ count_by has_price (quarters_in b)
+all_counted sheets ends k b i n start g t = t.many ∙ sym (count_front b.period_count b.quarters (λ p h. t.blank p (omega (arith, t.count))))

@@ -1,2 +1,2 @@
-pub mod Days
+pub mod BenchDays
 pub mod Quarters

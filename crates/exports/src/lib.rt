@@ -1,7 +1,7 @@
 // Functions for callers in C and Rust, over plain numbers and byte slices.
 #![tactic(auto)]
 
-pub mod day;
+pub mod bench_day;
 pub mod plain;
 pub mod quarter;
 pub mod rewriting;

@@ -22,8 +22,7 @@ pub struct PlainQuarter {
     pub finnish: PlainQuote,
 }
 
-/// Whether a book was started, with the refusal of its counts, and how many quarters have a price. A book that
-/// was not started for want of memory has refusal 0.
+/// Whether a book was started, with the refusal of its counts, and how many quarters have a price.
 #[repr(C)]
 #[derive(Clone, Copy)]
 pub struct PlainDay {

@@ -21,7 +21,7 @@ impl Afternoon<'_> {
         periods: usize,
         parties: usize,
     ) -> Result<Afternoon<'_>, Halt> {
-        let book = Book::start(rt.alloc(), periods, parties)?;
+        let book = Book::start(periods, parties)?;
         rt.println(Step::Started { periods, parties })?;
         Ok(Afternoon { rt, book })
     }

@@ -1,12 +1,12 @@
 // Why the program stops before its end.
-use settlement::fault::{BookFault, StartFault};
+use settlement::fault::{BookFault, CountFault};
 use std::io;
 use thiserror::Error;
 
 #[derive(Debug, Drop, Error)]
 pub(crate) enum Halt {
     #[error("the book is not started: {0:?}")]
-    Start(#[from] StartFault),
+    Start(#[from] CountFault),
     #[error("the book refuses a call: {0:?}")]
     Book(#[from] BookFault),
     #[error(transparent)]

@@ -9,7 +9,6 @@ use settlement::book::Book;
 use settlement::fault::BookFault;
 use settlement::quarter::Quarter;
 use source::table::{Row, Table};
-use std::alloc::{AllocError, Global};
 use units::price::Price;
 use units::quantity::Quantity;
 use units::zone_net::ZoneNet;
@@ -72,12 +71,12 @@ impl Metered {
 }
 
 impl Day {
-    /// Both counts are in range, so no fault but want of memory comes.
-    pub(crate) fn start(heap: Global) -> Result<Day, AllocError> {
-        Ok(Day {
-            book: Book::start(heap, PERIODS, PARTIES).map_err(|_| AllocError)?,
+    /// Both counts are in range, so the book is started.
+    pub(crate) fn start() -> Day {
+        Day {
+            book: Book::start(PERIODS, PARTIES).unwrap(),
             ledger: Ledger::new(),
-        })
+        }
     }
 
     /// Prices a quarter without demand, whose price is then the avoided value.

@@ -134,7 +134,7 @@ static PAYMENTS: [Payment; 4] = [
 ];
 
 fn payments(report: &mut Report<'_>) -> io::Result<()> {
-    let mut day = Day::start(report.heap())?;
+    let mut day = Day::start();
     for payment in PAYMENTS.iter() {
         let metered = Metered {
             schedules: [0, 0],
@@ -150,7 +150,7 @@ fn payments(report: &mut Report<'_>) -> io::Result<()> {
 }
 
 fn calls(report: &mut Report<'_>, dice: &mut Dice) -> io::Result<()> {
-    let mut day = Day::start(report.heap())?;
+    let mut day = Day::start();
     for number in 0..2_000u64 {
         let replies = day.any_call(dice);
         report.call(number, &replies)?;

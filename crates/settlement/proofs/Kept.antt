@@ -165,7 +165,7 @@ all_same zero p x = refl
 all_same (suc n) zero x = refl
 all_same (suc n) (suc p) x = all_same n p x
 
-none_metered : (m n p q : ℕ) → get_or (get_or (replicate m (replicate n balanced)) q []) p balanced ≡ balanced
+pub none_metered : (m n p q : ℕ) → get_or (get_or (replicate m (replicate n balanced)) q []) p balanced ≡ balanced
 none_metered zero n p q = refl
 none_metered (suc m) n p zero = all_same n p balanced
 none_metered (suc m) n p (suc q) = none_metered m n p q

@@ -7,7 +7,7 @@ use std::test::Fail;
 // Half a cent is paid as one cent, and the next half cent as none.
 #[test]
 fn rounding_does_not_pile_up(rt: HostRuntime) -> Result<(), Fail> {
-    let mut book = Book::start(rt.alloc(), 2, 2)?;
+    let mut book = Book::start(2, 2)?;
     price_at(&mut book, 0, 500)?;
     meter(&mut book, 0, 0, 1)?;
     assert!(rt; book.settle(0)?.cents == 1);
@@ -24,7 +24,7 @@ fn rounding_does_not_pile_up(rt: HostRuntime) -> Result<(), Fail> {
 
 #[test]
 fn whole_amounts(rt: HostRuntime) -> Result<(), Fail> {
-    let mut book = Book::start(rt.alloc(), 100, 32)?;
+    let mut book = Book::start(100, 32)?;
     price_at(&mut book, 99, 5_000)?;
     meter(&mut book, 99, 31, 3_750)?;
     assert!(rt; book.settle(31)?.cents == 18_750);
@@ -38,7 +38,7 @@ fn whole_amounts(rt: HostRuntime) -> Result<(), Fail> {
 // A late value replaces the one before, a new price too, and each is settled over the whole day.
 #[test]
 fn late_values(rt: HostRuntime) -> Result<(), Fail> {
-    let mut book = Book::start(rt.alloc(), 1, 1)?;
+    let mut book = Book::start(1, 1)?;
     meter(&mut book, 0, 0, 1_000)?;
     assert!(rt; book.settle(0)?.cents == 0);
     price_at(&mut book, 0, 4_000)?;
@@ -56,7 +56,7 @@ fn late_values(rt: HostRuntime) -> Result<(), Fail> {
 // The imbalance is allocated less position less adjustment.
 #[test]
 fn imbalances(rt: HostRuntime) -> Result<(), Fail> {
-    let mut book = Book::start(rt.alloc(), 1, 1)?;
+    let mut book = Book::start(1, 1)?;
     let values = MeterValues {
         schedules: &[-900, 5_000_000, -5_000_000],
         allocated: -850,

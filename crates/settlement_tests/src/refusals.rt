@@ -2,15 +2,14 @@
 use crate::calls::{meter, price, price_at, refused};
 use metering::meter_values::MeterValues;
 use settlement::book::Book;
-use settlement::fault::{CountFault, StartFault};
+use settlement::fault::CountFault;
 use settlement::quarter::Quarter;
-use std::alloc::Global;
 use std::test::Fail;
 use units::refusal::Refusal;
 
-fn not_started(heap: Global, periods: usize, parties: usize, count: CountFault) -> bool {
-    let started = Book::start(heap, periods, parties);
-    count.number() == 14 && started.is_err_and(|fault| fault == StartFault::Count(count))
+fn not_started(periods: usize, parties: usize, count: CountFault) -> bool {
+    let started = Book::start(periods, parties);
+    count.number() == 14 && started.is_err_and(|fault| fault == count)
 }
 
 #[test]
@@ -23,19 +22,19 @@ fn counts(rt: HostRuntime) {
     ];
     for (periods, parties, count) in cases {
         assert!(rt;
-            not_started(rt.alloc(), periods, parties, count),
+            not_started(periods, parties, count),
             "{periods}, {parties}"
         );
     }
     assert!(rt; CountFault::Periods.place() == 0 && CountFault::Parties.place() == 1);
-    assert!(rt; Book::start(rt.alloc(), 1, 1).is_ok());
-    assert!(rt; Book::start(rt.alloc(), 100, 32).is_ok());
+    assert!(rt; Book::start(1, 1).is_ok());
+    assert!(rt; Book::start(100, 32).is_ok());
 }
 
 // 9, 11, 7, 8
 #[test]
 fn pricing(rt: HostRuntime) -> Result<(), Fail> {
-    let mut book = Book::start(rt.alloc(), 2, 1)?;
+    let mut book = Book::start(2, 1)?;
     assert!(rt; refused(price(&mut book, 2, 9, None), 9, 2));
     assert!(rt; refused(price(&mut book, 1, 9, None), 7, 9));
     assert!(rt; refused(price(&mut book, 1, 228, None), 8, 228));
@@ -63,7 +62,7 @@ fn values(schedules: &[i64], allocated: i64, adjustment: i64) -> MeterValues<'_>
 // 9, 10, 11, and then the values: 13
 #[test]
 fn metering(rt: HostRuntime) -> Result<(), Fail> {
-    let mut book = Book::start(rt.alloc(), 1, 1)?;
+    let mut book = Book::start(1, 1)?;
     let far = i64::MAX;
     assert!(rt; refused(book.meter(1, 1, &values(&[far; 33], far, far)), 9, 1));
     assert!(rt; refused(book.meter(0, 1, &values(&[far; 33], far, far)), 10, 1));
@@ -91,7 +90,7 @@ fn metering(rt: HostRuntime) -> Result<(), Fail> {
 // Closing 9, 11, 12; settling 10; questions 9, then 10
 #[test]
 fn others(rt: HostRuntime) -> Result<(), Fail> {
-    let mut book = Book::start(rt.alloc(), 1, 1)?;
+    let mut book = Book::start(1, 1)?;
     assert!(rt; refused(book.close(1), 9, 1));
     assert!(rt; refused(book.close(0), 12, 0));
     price_at(&mut book, 0, 100)?;

@@ -1,5 +1,5 @@
--- A day in the book: which quarters are priced, what is metered, and what the parties are paid.
-use Rattle.std.specs.Prelude.{◌≡◌, ℕ, zero, suc, ◌*◌, ◌<◌, Bool, false, true, cond, ◌&&◌, ◌⊎◌, List, [], ◌∷◌, length, map, ℤ, pos, ◌+ℤ◌, ◌-ℤ◌, Some, None, Option, Ok, Err, ◌==◌, count_by, is_some, nat_le, nat_lt, slice_index, slice_index_or}
+-- A day in the book, for the bench: which quarters are priced, what is metered, and what the parties are paid.
+use Rattle.std.specs.Prelude.{◌≡◌, ℕ, zero, suc, ◌*◌, ◌<◌, Bool, false, true, cond, ◌&&◌, List, [], ◌∷◌, length, map, ℤ, pos, ◌+ℤ◌, ◌-ℤ◌, Some, None, Option, Ok, Err, ◌==◌, count_by, is_some, nat_le, nat_lt, slice_index, slice_index_or, take}
 use Rattle.std.specs.List.{range_with_len, slice_range}
 use Rattle.metering.specs.Imbalances.{Values, imbalance}
 use Rattle.pricing.specs.Quotes.{Quoted}
@@ -9,8 +9,7 @@ use Rattle.settlement.specs.Known.{Known, payable}
 use Rattle.settlement.specs.Quarters.{quote_in}
 use Rattle.settlement.specs.Refusals.{count_number, count_place}
 use Rattle.settlement.specs.declared.fault.CountFault.{CountFault}
-use Rattle.settlement.specs.declared.fault.StartFault.{StartFault}
-use Rattle.settlement.specs.declared.fault.StartFault.TheVariants.{Count, Memory}
+use Rattle.settlement.specs.declared.book.Book.{Book}
 use Rattle.settlement.specs.declared.quarter.Quarter.{Quarter}
 use Rattle.settlement.specs.declared.quarter.Quarter.TheVariants.{Blank, Priced, Closed}
 use Rattle.sheet.specs.Sheets.{sheet_meaning}
@@ -43,7 +42,7 @@ has_price x = is_some (quote_in x)
 
 -- VOLUMES
 
--- what is metered of a party in a period, with kWh that come late
+-- what is metered of a party in a period, with kWh that come late: numbers made up for the bench
 abbrev pub meter_values : ℕ → ℕ → ℤ → Values
 meter_values p q late = record {
   schedules = (pos (13 * p) -ℤ pos 900) ∷ (pos (7 * q) -ℤ pos 350) ∷ [];
@@ -80,13 +79,12 @@ pub record Buffers : Type 0 where
   pub first : List ℤ
   pub second : List ℤ
 
--- the refusal of the counts; want of memory has no number
-abbrev pub not_started : StartFault → PlainDay
-not_started (Count f) = record { started = false; refusal = count_number f; place = count_place f; priced = 0 }
-not_started Memory = record { started = false; refusal = 0; place = 0; priced = 0 }
+-- the refusal of the counts
+abbrev pub not_started : CountFault → PlainDay
+not_started f = record { started = false; refusal = count_number f; place = count_place f; priced = 0 }
 
 -- no book is started, and the buffers are left
-pub record NotStarted (f : StartFault) (before after : Buffers) (d : PlainDay) : Type 0 where
+pub record NotStarted (f : CountFault) (before after : Buffers) (d : PlainDay) : Type 0 where
   pub answer : d ≡ not_started f
   pub left : after ≡ before
 
@@ -98,17 +96,21 @@ pub record Settled (sheets ends : List ℕ) (m : ℕ) (before after : Buffers) (
   pub first : after.first ≡ payments_over (metered_all (unmetered m quarters)) before.first
   pub second : after.second ≡ payments_over (metered_late (settled_first (length before.first) (metered_all (unmetered m quarters)))) before.second
 
--- counts that no book can have are refused; with others the day is settled, or memory is wanting
+-- counts that no book can have are refused; with others the day is settled
 abbrev pub DayOf : Option CountFault → List ℕ → List ℕ → ℕ → Buffers → Buffers → PlainDay → Type 0
-DayOf (Some f) sheets ends m before after d = NotStarted (Count f) before after d
-DayOf None sheets ends m before after d = NotStarted Memory before after d ⊎ Settled sheets ends m before after d
+DayOf (Some f) sheets ends m before after d = NotStarted f before after d
+DayOf None sheets ends m before after d = Settled sheets ends m before after d
 
 -- THE BOOK ON THE WAY
+
+-- the quarters of a book's periods, one after another
+abbrev pub quarters_in : Book → List Quarter
+quarters_in b = take b.period_count b.quarters
 
 -- what is known of two settlements is the same
 pub record Alike (k k' : Known) : Type 0 where
   pub periods : k.periods ≡ k'.periods
   pub parties : k.parties ≡ k'.parties
-  pub quarter : (p : ℕ) → k.quarter p ≡ k'.quarter p
+  pub quarter : (p : ℕ) → p < k'.periods → k.quarter p ≡ k'.quarter p
   pub volume : (p q : ℕ) → p < k'.periods → q < k'.parties → k.volume p q ≡ k'.volume p q
   pub paid : (q : ℕ) → q < k'.parties → k.paid q ≡ k'.paid q

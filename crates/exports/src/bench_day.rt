@@ -1,8 +1,8 @@
-// A day in the book: quarters priced from their sheets, parties metered and settled, one late meter value, and
-// settled again.
-ghost use Rattle.std.specs.Prelude.{◌≡◌, ℕ, ◌<◌, ◌≤◌, false, count_by, length, unsigned_abs, vec_items, vec_len};
-ghost use Rattle.exports.specs.Days.{Alike, Buffers, DayOf, QuartersOf, has_price, meter_values, metered_all, not_started, payments_over, settled_first};
-ghost use Rattle.settlement.specs.Books.{Fresh, in_book, quarter_at};
+// A day in the book, to measure what a day costs: quarters priced from their sheets, parties metered with values that
+// are made up here, settled, one late value, and settled again.
+ghost use Rattle.std.specs.Prelude.{◌≡◌, ℕ, ◌<◌, ◌≤◌, false, count_by, length, unsigned_abs};
+ghost use Rattle.exports.specs.BenchDays.{Alike, Buffers, DayOf, QuartersOf, has_price, meter_values, metered_all, not_started, payments_over, quarters_in, settled_first};
+ghost use Rattle.settlement.specs.Books.{Fresh, SameCounts, in_book, quarter_at};
 ghost use Rattle.settlement.specs.Events.{metered};
 ghost use Rattle.settlement.specs.Quarters.{is_closed};
 ghost use Rattle.settlement.specs.Runs.{Whole, count_fault};
@@ -13,19 +13,19 @@ use metering::meter_values::MeterValues;
 use pricing::rulebook::Rulebook;
 use pricing::rulebooks::Finnish;
 use settlement::book::Book;
-use settlement::fault::{BookFault, StartFault};
+use settlement::fault::{BookFault, CountFault};
 use sheet::sheet::Sheet;
-use std::alloc::Global;
 use units::refusal::Refusal;
 
 // Prices each quarter from its own sheet, from no bytes where its places are none of the sheets', and answers how many
 // have a price.
 fn price_all(book: &mut Book, sheets: &[u8], ends: &[usize]) -> usize
     requires fresh { Fresh book.old }
-    requires count { vec_len book.old.quarters ≡ length ends.now }
-    ensures quarters { QuartersOf sheets.now ends.now (vec_items book.new.quarters) }
+    requires count { book.old.period_count ≡ length ends.now }
+    ensures quarters { QuartersOf sheets.now ends.now (quarters_in book.new) }
     ensures parties { book.new.parties ≡ book.old.parties }
-    ensures priced { result ≡ count_by has_price (vec_items book.new.quarters) }
+    ensures counts { SameCounts book.old book.new }
+    ensures priced { result ≡ count_by has_price (quarters_in book.new) }
 {
     let mut priced = 0;
     let mut start = 0;
@@ -56,9 +56,9 @@ fn meter(book: &mut Book, period: usize, party: usize, late: i64) -> Result<Imba
 }
 
 fn meter_all(book: &mut Book, periods: usize, parties: usize)
-    requires periods { vec_len book.old.quarters ≡ periods }
-    requires parties { vec_len book.old.parties ≡ parties }
-    requires open { (p : ℕ) → is_closed (quarter_at book.old p) ≡ false }
+    requires periods { book.old.period_count ≡ periods }
+    requires parties { book.old.party_count ≡ parties }
+    requires open { (p : ℕ) → p < book.old.period_count → is_closed (quarter_at book.old p) ≡ false }
     ensures { Alike (in_book book.new) (metered_all (in_book book.old)) }
 {
     for period in 0..periods {
@@ -80,29 +80,25 @@ fn settle_all(book: &mut Book, payments: &mut [i64])
     }
 }
 
-impl From<StartFault> for PlainDay {
+impl From<CountFault> for PlainDay {
     ghost from_gives = { λ f d. d ≡ not_started f };
 
-    fn from(fault: StartFault) -> PlainDay {
-        let (refusal, place) = match fault {
-            StartFault::Count(count) => (count.number(), count.place()),
-            StartFault::Memory => (0, 0),
-        };
+    fn from(fault: CountFault) -> PlainDay {
         PlainDay {
             started: false,
-            refusal,
-            place,
+            refusal: fault.number(),
+            place: fault.place(),
             priced: 0,
         }
     }
 }
 
-/// A day of as many quarters as `ends` has places. The sheet of a quarter ends where `ends` says, and begins where
-/// the one before ends. What the parties are paid first and after the late value is put to `first` and `second`,
-/// whose places past the parties are left as they were; both are, where no book is started.
+/// A day for the bench, of as many quarters as `ends` has places: it measures the work of a day, and its meter values
+/// are nobody's. The sheet of a quarter ends where `ends` says, and begins where the one before ends. What the
+/// parties are paid first and after the late value is put to `first` and `second`, whose places past the parties are
+/// left as they were; both are, where no book is started.
 #[unsafe(no_mangle)]
-pub extern "C" fn fumeliosa_day(
-    heap: Global,
+pub extern "C" fn fumeliosa_bench_day(
     sheets: &[u8],
     ends: &[usize],
     parties: usize,
@@ -111,7 +107,7 @@ pub extern "C" fn fumeliosa_day(
 ) -> PlainDay
     ensures { let before : Buffers = record { first = first.old; second = second.old } in let after : Buffers = record { first = first.new; second = second.new } in DayOf (count_fault (length ends.now) parties) sheets.now ends.now parties before after result }
 {
-    let mut book = match Book::start(heap, ends.len(), parties) {
+    let mut book = match Book::start(ends.len(), parties) {
         Ok(book) => book,
         Err(fault) => return PlainDay::from(fault),
     };

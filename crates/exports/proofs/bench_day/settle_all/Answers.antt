@@ -1,8 +1,8 @@
 use Rattle.std.proofs.lemmas.List.{set-get_or}
 use Rattle.std.proofs.Common.{rules, ◌≡◌, set, arith}
 use Rattle.exports.proofs.Settling.{accepted, all_placed, refused}
-use Rattle.exports.proofs.day.settle_all.Goals as goal
-use Rattle.exports.proofs.day.settle_all.Goals.{in-Ok, in_default}
+use Rattle.exports.proofs.bench_day.settle_all.Goals as goal
+use Rattle.exports.proofs.bench_day.settle_all.Goals.{in-Ok, in_default}
 
 pub loop-party-preserved : goal.loop-party-preserved
 loop-party-preserved c =

@@ -1,7 +1,7 @@
-use Rattle.std.proofs.Common.{true, inr, subst, sym}
-use Rattle.exports.specs.Days.{Buffers, DayOf}
+use Rattle.std.proofs.Common.{true, subst, sym}
+use Rattle.exports.specs.BenchDays.{Buffers, DayOf}
 use Rattle.exports.proofs.Days.{Steps, as_settled}
-use Rattle.exports.proofs.day.fumeliosa_day.Goals as goal
+use Rattle.exports.proofs.bench_day.fumeliosa_bench_day.Goals as goal
 
 pub returns : goal.returns
 returns c =
@@ -15,9 +15,10 @@ returns c =
       paid = c.settle_all.new.book;
       corrected = c.meter.new.book;
       answer = c.meter.result;
-      begins = c.in-Ok.ensures;
+      begins = c.in-Ok.ensures.started;
       prices = c.price_all-priced.ensures.quarters;
       parties = c.price_all-priced.ensures.parties;
+      counts = c.price_all-priced.ensures.counts;
       many = c.price_all-priced.ensures.priced;
       all = c.meter_all.ensures;
       first = c.settle_all.ensures.payments;
@@ -26,5 +27,5 @@ returns c =
       second = c.settle_all-2.ensures.payments;
     } in
     subst (λ f. DayOf f c.args.sheets.now c.args.ends.now c.args.parties before after (record { started = true; refusal = 0; place = 0; priced = n }))
-    (sym c.in-Ok.ensures.counts)
-    (inr (as_settled c.args.sheets.now c.args.ends.now c.args.parties before after n steps))
+    (sym c.in-Ok.ensures.started.counts)
+    (as_settled c.args.sheets.now c.args.ends.now c.args.parties before after n steps)

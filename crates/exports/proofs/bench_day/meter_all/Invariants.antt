@@ -1,5 +1,5 @@
 use Rattle.exports.proofs.Metering.{MeteredTo}
-use Rattle.exports.proofs.day.meter_all.Given as goal
+use Rattle.exports.proofs.bench_day.meter_all.Given as goal
 
 abbrev pub invariant-loop-period : goal.invariant-loop-period
 invariant-loop-period l = MeteredTo l.fn.book l.book l.period 0

@@ -3,7 +3,7 @@ use borrow.Author.Differences.{ints}
 use Rattle.settlement.specs.Events.{metered}
 use Rattle.settlement.specs.Runs.{Whole}
 use Rattle.exports.proofs.Metering.{as_told}
-use Rattle.exports.proofs.day.meter.Goals as goal
+use Rattle.exports.proofs.bench_day.meter.Goals as goal
 
 pub returns : goal.returns
 returns c =
