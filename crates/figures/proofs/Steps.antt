@@ -12,7 +12,7 @@ use Rattle.units.specs.declared.zone_net.ZoneNet.{ZoneNet}
 use Rattle.figures.specs.Counting.{counted_of, formed_of, reported}
 use Rattle.figures.specs.Sides.{Given, ReportedTo, Slots, net_to, formed_to, counting_to, joined, manual_at}
 use Rattle.figures.specs.Gathering.{side_from}
-use Rattle.figures.specs.Spans.{extremes_of, greater, lesser, low_of, high_of, noted, reached, reached_if, span_of, widened}
+use Rattle.figures.specs.Spans.{greater, lesser, low_of, high_of, highest_of, lowest_of, noted, span_between, widened}
 use Rattle.figures.specs.Tallies.{Room, Tallied, blank, counting, counting_in, manual, noting, noting_in, tally_of}
 use Rattle.figures.specs.declared.side.Activation.{Activation}
 use Rattle.figures.specs.declared.gathering.ManualSlots.{ManualSlots}
@@ -38,13 +38,13 @@ under_highest p = grind (arith, ints, p.bounded, price_same)
 above_lowest : (p : Price) → greater p lowest_price ≡ p
 above_lowest p = grind (arith, ints, p.bounded, price_same)
 
-pub extremes_reached : (p : Price) (o : Option Span) → reached p (extremes_of o) ≡ extremes_of (Some (widened p o))
-extremes_reached p None = grind (arith, under_highest p, above_lowest p)
-extremes_reached p (Some s) = refl
+lowest_reached : (p : Price) (o : Option Span) → lesser p (lowest_of o) ≡ lowest_of (Some (widened p o))
+lowest_reached p None = under_highest p
+lowest_reached p (Some s) = refl
 
-pub extremes_noted : (p : Option Price) (o : Option Span) → reached_if p (extremes_of o) ≡ extremes_of (noted p o)
-extremes_noted None o = refl
-extremes_noted (Some p) o = extremes_reached p o
+highest_reached : (p : Price) (o : Option Span) → greater p (highest_of o) ≡ highest_of (Some (widened p o))
+highest_reached p None = above_lowest p
+highest_reached p (Some s) = refl
 
 -- where there is a price, the least is not above the greatest
 abbrev Ordered : Option Span → Type 0
@@ -73,22 +73,23 @@ unfolding counting_to
 counting_ordered d m zero = tt
 counting_ordered d m (suc k) = joined_ordered (counted_of d (weight k) (m k)) (counting_to d m k) (counting_ordered d m k)
 
-span_again : (s : Option Span) → Ordered s → span_of (extremes_of s) ≡ s
+span_again : (s : Option Span) → Ordered s → span_between (lowest_of s) (highest_of s) ≡ s
 span_again None h = grind arith
 span_again (Some s) h = grind (arith, ints)
 
-formed_again : (d : Direction) (m : Slots) (n : ℕ) → span_of (extremes_of (formed_to d m n)) ≡ formed_to d m n
+formed_again : (d : Direction) (m : Slots) (n : ℕ) → span_between (lowest_of (formed_to d m n)) (highest_of (formed_to d m n)) ≡ formed_to d m n
 formed_again d m n = span_again (formed_to d m n) (formed_ordered d m n)
 
-counting_again : (d : Direction) (m : Slots) (n : ℕ) → span_of (extremes_of (counting_to d m n).span) ≡ (counting_to d m n).span
+counting_again : (d : Direction) (m : Slots) (n : ℕ) → span_between (lowest_of (counting_to d m n).span) (highest_of (counting_to d m n).span) ≡ (counting_to d m n).span
 counting_again d m n = span_again (counting_to d m n).span (counting_ordered d m n)
 
 tally_noted : (p : Option Price) (c : Totals) (f : Option Span) → noting_in p (tally_of c f) ≡ tally_of c (noted p f)
-tally_noted p c f = grind (arith, extremes_noted p f)
+tally_noted None c f = refl
+tally_noted (Some p) c f = grind (arith, lowest_reached p f, highest_reached p f)
 
 tally_joined : (a : Option Activation) (c : Totals) (f : Option Span) → counting_in a (tally_of c f) ≡ tally_of (joined a c) f
 tally_joined None c f = refl
-tally_joined (Some a) c f = grind (arith, extremes_reached a.price c.span)
+tally_joined (Some a) c f = grind (arith, lowest_reached a.price c.span, highest_reached a.price c.span)
 
 pub blank_tallied : (m : Slots) → Tallied m 0 0 blank
 unfolding net_to formed_to counting_to

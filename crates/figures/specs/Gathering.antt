@@ -8,7 +8,7 @@ use Rattle.source.specs.declared.slot.TheConstants.{SLOTS}
 use Rattle.figures.specs.Components.{side_in, volume}
 use Rattle.figures.specs.Counting.{Counts}
 use Rattle.figures.specs.Sides.{Given, ReportedTo, Slots}
-use Rattle.figures.specs.Spans.{span_of}
+use Rattle.figures.specs.Spans.{span_between}
 use Rattle.figures.specs.Tallies.{Tallied, cycles_of, manual}
 use Rattle.figures.specs.declared.fault.UnreportedSlot.{UnreportedSlot}
 use Rattle.figures.specs.declared.quarter_figures.Figures.{Figures}
@@ -59,5 +59,5 @@ side_from d t s = record {
   scheduled = manual d s.scheduled;
   direct_up = manual d s.direct_up;
   direct_down = manual d s.direct_down;
-  formed = span_of t.formed;
+  formed = span_between t.lowest_formed t.highest_formed;
 }

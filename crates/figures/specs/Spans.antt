@@ -1,6 +1,5 @@
 -- The least and the greatest of some prices.
 use Rattle.std.specs.Prelude.{ℤ, pos, Some, None, Option, int_lt, if◌then◌else◌}
-use Rattle.figures.specs.declared.span.Extremes.{Extremes}
 use Rattle.figures.specs.declared.span.Span.{Span}
 use Rattle.units.specs.Quantities.{lowest_price, highest_price}
 use Rattle.units.specs.declared.price.Price.{Price}
@@ -31,19 +30,14 @@ high_of None = pos 0
 high_of (Some s) = s.highest.cents
 
 -- the least and the greatest so far; without a price the bounds of a price, crossed
-abbrev pub extremes_of : Option Span → Extremes
-extremes_of None = record { lowest = highest_price; highest = lowest_price }
-extremes_of (Some s) = record { lowest = s.lowest; highest = s.highest }
+abbrev pub lowest_of : Option Span → Price
+lowest_of None = highest_price
+lowest_of (Some s) = s.lowest
+
+abbrev pub highest_of : Option Span → Price
+highest_of None = lowest_price
+highest_of (Some s) = s.highest
 
 -- the span again: there was a price unless the two are crossed
-abbrev pub span_of : Extremes → Option Span
-span_of e = if int_lt e.highest.cents e.lowest.cents then None else Some (record { lowest = e.lowest; highest = e.highest })
-
--- one price more
-abbrev pub reached : Price → Extremes → Extremes
-reached p e = record { lowest = lesser p e.lowest; highest = greater p e.highest }
-
--- one price more, where it is formed
-abbrev pub reached_if : Option Price → Extremes → Extremes
-reached_if None e = e
-reached_if (Some p) e = reached p e
+abbrev pub span_between : Price → Price → Option Span
+span_between l h = if int_lt h.cents l.cents then None else Some (record { lowest = l; highest = h })

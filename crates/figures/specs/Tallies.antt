@@ -6,7 +6,7 @@ use Rattle.source.specs.declared.direction.Direction.TheVariants.{Up, Down}
 use Rattle.units.specs.declared.price.Price.{Price}
 use Rattle.figures.specs.Counting.{counted}
 use Rattle.figures.specs.Sides.{Slots, net_to, formed_to, counting_to, none, volume_of}
-use Rattle.figures.specs.Spans.{extremes_of, reached, reached_if, span_of}
+use Rattle.figures.specs.Spans.{greater, highest_of, lesser, lowest_of, span_between}
 use Rattle.figures.specs.declared.side.Activation.{Activation}
 use Rattle.figures.specs.declared.side.Manual.{Manual}
 use Rattle.figures.specs.declared.side.Totals.{Totals}
@@ -17,11 +17,18 @@ use Rattle.figures.specs.declared.weighed.Weighed.{Weighed}
 
 -- the tally of a direction that has these totals of the cycles and these formed prices
 abbrev pub tally_of : Totals → Option Span → DirectionTally
-tally_of c f = record { volume = c.volume; value = c.value; counting = extremes_of c.span; formed = extremes_of f }
+tally_of c f = record {
+  volume = c.volume;
+  value = c.value;
+  lowest_counting = lowest_of c.span;
+  highest_counting = highest_of c.span;
+  lowest_formed = lowest_of f;
+  highest_formed = highest_of f;
+}
 
 -- the totals of the cycles again
 abbrev pub cycles_of : DirectionTally → Totals
-cycles_of t = record { volume = t.volume; value = t.value; span = span_of t.counting }
+cycles_of t = record { volume = t.volume; value = t.value; span = span_between t.lowest_counting t.highest_counting }
 
 -- there is room for one cycle more
 abbrev pub Room : DirectionTally → Type 0
@@ -35,12 +42,27 @@ blank = record { net = pos 0; up = tally_of none None; down = tally_of none None
 
 -- one price more, where it is formed
 abbrev pub noting_in : Option Price → DirectionTally → DirectionTally
-noting_in p t = record { volume = t.volume; value = t.value; counting = t.counting; formed = reached_if p t.formed }
+noting_in None t = t
+noting_in (Some p) t = record {
+  volume = t.volume;
+  value = t.value;
+  lowest_counting = t.lowest_counting;
+  highest_counting = t.highest_counting;
+  lowest_formed = lesser p t.lowest_formed;
+  highest_formed = greater p t.highest_formed;
+}
 
 -- one cycle more, where it counts
 abbrev pub counting_in : Option Activation → DirectionTally → DirectionTally
 counting_in None t = t
-counting_in (Some a) t = record { volume = t.volume + a.volume; value = t.value +ℤ (pos a.volume *ℤ a.price.cents); counting = reached a.price t.counting; formed = t.formed }
+counting_in (Some a) t = record {
+  volume = t.volume + a.volume;
+  value = t.value +ℤ (pos a.volume *ℤ a.price.cents);
+  lowest_counting = lesser a.price t.lowest_counting;
+  highest_counting = greater a.price t.highest_counting;
+  lowest_formed = t.lowest_formed;
+  highest_formed = t.highest_formed;
+}
 
 -- the price that a cycle has in a direction, and what it counts there
 abbrev pub with_in : Direction → Weighed → DirectionTally → DirectionTally

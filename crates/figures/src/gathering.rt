@@ -7,6 +7,7 @@ ghost use Rattle.figures.specs.Gathering.{CountsShown, Cycled, Figured, Weighs, 
 use crate::fault::UnreportedSlot;
 use crate::quarter_figures::Figures;
 use crate::side::Side;
+use crate::span::span_between;
 use crate::tally::{DirectionTally, Tally};
 use crate::weighed::Weighed;
 use source::direction::Direction;
@@ -60,7 +61,7 @@ impl ManualSlots {
             scheduled: self.scheduled.manual(direction),
             direct_up: self.direct_up.manual(direction),
             direct_down: self.direct_down.manual(direction),
-            formed: tally.formed.span(),
+            formed: span_between(tally.lowest_formed, tally.highest_formed),
         }
     }
 }

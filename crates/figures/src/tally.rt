@@ -5,18 +5,21 @@ ghost use Rattle.figures.specs.Sides.{none, volume_of};
 ghost use Rattle.figures.specs.Tallies.{Room, blank, counting, counting_in, cycles_of, manual, noting, noting_in, tally_of, with_in};
 
 use crate::side::{Activation, Manual, Totals};
-use crate::span::Extremes;
+use crate::span::{greater, lesser, span_between};
 use crate::weighed::Weighed;
 use source::direction::Direction;
 use units::price::Price;
 
-// Of one direction V, S and the prices of the cycles counted, and the formed prices of the slots noted.
+// Of one direction V, S and the prices of the cycles counted, and the formed prices of the slots noted. Each price is
+// a field: two in a struct of their own are copied packed in one word, which takes longer.
 #[derive(Clone, Copy)]
 pub(crate) struct DirectionTally {
     pub(crate) volume: u64,
     pub(crate) value: i64,
-    pub(crate) counting: Extremes,
-    pub(crate) formed: Extremes,
+    pub(crate) lowest_counting: Price,
+    pub(crate) highest_counting: Price,
+    pub(crate) lowest_formed: Price,
+    pub(crate) highest_formed: Price,
 }
 
 // The local net of the slots noted, and what was counted and noted in each direction.
@@ -76,8 +79,10 @@ impl DirectionTally {
         DirectionTally {
             volume: 0,
             value: 0,
-            counting: Extremes::none(),
-            formed: Extremes::none(),
+            lowest_counting: Price::highest(),
+            highest_counting: Price::lowest(),
+            lowest_formed: Price::highest(),
+            highest_formed: Price::lowest(),
         }
     }
 
@@ -88,7 +93,7 @@ impl DirectionTally {
         Totals {
             volume: self.volume,
             value: self.value,
-            span: self.counting.span(),
+            span: span_between(self.lowest_counting, self.highest_counting),
         }
     }
 
@@ -96,11 +101,16 @@ impl DirectionTally {
     fn noting(self, price: Option<Price>) -> DirectionTally
         ensures { result ≡ noting_in price self }
     {
+        let Some(price) = price else {
+            return self;
+        };
         DirectionTally {
             volume: self.volume,
             value: self.value,
-            counting: self.counting,
-            formed: self.formed.noting(price),
+            lowest_counting: self.lowest_counting,
+            highest_counting: self.highest_counting,
+            lowest_formed: lesser(price, self.lowest_formed),
+            highest_formed: greater(price, self.highest_formed),
         }
     }
 
@@ -116,8 +126,10 @@ impl DirectionTally {
         DirectionTally {
             volume: self.volume + added.volume,
             value: self.value + added.volume as i64 * added.price.cents(),
-            counting: self.counting.with(added.price),
-            formed: self.formed,
+            lowest_counting: lesser(added.price, self.lowest_counting),
+            highest_counting: greater(added.price, self.highest_counting),
+            lowest_formed: self.lowest_formed,
+            highest_formed: self.highest_formed,
         }
     }
 
