@@ -20,12 +20,13 @@ use Rattle.settlement.specs.Runs.{AllAnswered, AllFairlyPaid, Answered, Changes,
 use Rattle.settlement.specs.declared.book.Book.{Book}
 use Rattle.settlement.specs.declared.fault.BookFault.{BookFault}
 use Rattle.settlement.specs.declared.fault.BookFault.TheVariants.{QuarterClosed, Metering}
+use Rattle.settlement.specs.declared.party.Party.{Party}
 use Rattle.settlement.specs.declared.quarter.Quarter.{Quarter}
 use Rattle.settlement.specs.declared.quarter.Quarter.TheVariants.{Blank, Priced, Closed}
 use Rattle.settlement.proofs.Checks.{Accepted, Shut, closing_accepted, or_none, party_known, period_known, pricing_accepted}
 use Rattle.settlement.proofs.Filings.{filed, right, within_bounds}
 use Rattle.settlement.proofs.Only.{only}
-use Rattle.settlement.proofs.Readings.{amount_placed, quarter_placed, row_placed, volume_placed}
+use Rattle.settlement.proofs.Readings.{amount_placed, imbalance_of, paid_of, quarter_of, quarter_placed, row_placed, volume_placed}
 use Rattle.settlement.proofs.Sums.{sum_same}
 
 abbrev Bounds : Filing → Type 0
@@ -315,18 +316,12 @@ fresh_sound b f = sound_in (begun b f)
 
 -- AN ANSWER THAT THE BOOK GIVES, BY THE RUN
 
-pub quarter_said : (b : Book) (p : ℕ) (a : Result Quarter BookFault) → a ≡ unless_fault (period_fault (in_book b) p) (quarter_at b p) → (h : List Event) → Run h b → IfOk a (λ x. x ≡ quarter_after h p)
-quarter_said b p (Ok x) e h r = (passed _ _ x e).1 ∙ (kept r).standings p
-quarter_said b p (Err f) e h r = tt
+-- what is read at a place of the book, whatever would stand past the last
+pub quarter_said : (h : List Event) (b : Book) (p : ℕ) (x : Quarter) → Run h b → p < b.period_count → get_or b.quarters p x ≡ quarter_after h p
+quarter_said h b p x r l = quarter_of b p x l ∙ (kept r).standings p
 
-pub volume_said : (b : Book) (p q : ℕ) (a : Result Imbalance BookFault) → a ≡ unless_fault (place_fault (in_book b) p q) (imbalance_at b p q) → (h : List Event) → Run h b → IfOk a (λ x. x.kwh ≡ volume_after h p q)
-volume_said b p q (Ok x) e h r =
-    let s = passed (place_fault (in_book b) p q) _ x e in
-    ap (λ (i : Imbalance). i.kwh) s.1 ∙ (kept r).volumes p q
-volume_said b p q (Err f) e h r = tt
+pub volume_said : (h : List Event) (b : Book) (p q : ℕ) (x : Party) (i : Imbalance) → Run h b → p < b.period_count → q < b.party_count → (get_or (get_or b.parties q x).volumes p i).kwh ≡ volume_after h p q
+volume_said h b p q x i r l m = ap (λ (y : Imbalance). y.kwh) (imbalance_of b p q x i l m) ∙ (kept r).volumes p q
 
-pub payments_said : (b : Book) (q : ℕ) (a : Result Amount BookFault) → a ≡ unless_fault (party_fault (in_book b) q) (paid_to b q) → (h : List Event) → Run h b → IfOk a (λ x. x.cents ≡ payments_since h q)
-payments_said b q (Ok x) e h r =
-    let s = passed (party_fault (in_book b) q) _ x e in
-    ap (λ (y : Amount). y.cents) s.1 ∙ (kept r).payments q
-payments_said b q (Err f) e h r = tt
+pub payments_said : (h : List Event) (b : Book) (q : ℕ) (x : Party) → Run h b → q < b.party_count → (get_or b.parties q x).paid.cents ≡ payments_since h q
+payments_said h b q x r l = ap (λ (y : Amount). y.cents) (paid_of b q x l) ∙ (kept r).payments q

@@ -1,11 +1,14 @@
 -- What stands in a book, and what is read of it.
-use Rattle.std.proofs.Common.{◌≡◌, ℕ, ◌<◌, ◌≤◌, List, [], ◌∷◌, length, get_or, map, sym, subst, arith}
+use Rattle.std.proofs.Common.{◌≡◌, ℕ, zero, suc, ◌<◌, ◌≤◌, List, [], ◌∷◌, length, get_or, map, sym, refl, ap, ◌∙◌, subst, arith}
 use Rattle.std.proofs.lemmas.List.{get_or-map, length-map}
+use Rattle.metering.specs.Imbalances.{balanced}
 use Rattle.metering.specs.declared.imbalance.Imbalance.{Imbalance}
-use Rattle.settlement.specs.Books.{paid_to, payments_in, volumes_in, volumes_of}
+use Rattle.settlement.specs.Books.{imbalance_at, paid_to, payments_in, quarter_at, volumes_in, volumes_of}
 use Rattle.settlement.specs.Payments.{nothing}
 use Rattle.settlement.specs.declared.book.Book.{Book}
 use Rattle.settlement.specs.declared.party.Party.{Party}
+use Rattle.settlement.specs.declared.quarter.Quarter.{Quarter}
+use Rattle.settlement.specs.declared.quarter.Quarter.TheVariants.{Blank}
 
 -- THE PLACES OF A BOOK
 
@@ -32,9 +35,21 @@ volume_placed b p q l m = omega (arith, l, b.counts.1, rows_long b.parties q (pa
 
 -- WHAT IS READ
 
+-- where a list has an element, it is read whatever would stand past the last
+get_or_any : {X : Type 0} (xs : List X) (i : ℕ) (d e : X) → i < length xs → get_or xs i d ≡ get_or xs i e
+get_or_any [] i d e l = absurd (omega (arith, l))
+get_or_any (x ∷ xs) zero d e l = refl
+get_or_any (x ∷ xs) (suc i) d e l = get_or_any xs i d e (omega (arith, l))
+
 -- the party at q, as it is read with whatever would stand past the last
 pub row_of : (b : Book) (q : ℕ) (x : Party) → q < b.party_count → (get_or b.parties q x).volumes ≡ volumes_of b q
 row_of b q x l = sym (get_or-map (λ (p : Party). p.volumes) b.parties q x [] (party_placed b q l))
 
 pub paid_of : (b : Book) (q : ℕ) (x : Party) → q < b.party_count → (get_or b.parties q x).paid ≡ paid_to b q
 paid_of b q x l = sym (get_or-map (λ (p : Party). p.paid) b.parties q x nothing (party_placed b q l))
+
+pub quarter_of : (b : Book) (p : ℕ) (x : Quarter) → p < b.period_count → get_or b.quarters p x ≡ quarter_at b p
+quarter_of b p x l = get_or_any b.quarters p x Blank (quarter_placed b p l)
+
+pub imbalance_of : (b : Book) (p q : ℕ) (x : Party) (i : Imbalance) → p < b.period_count → q < b.party_count → get_or (get_or b.parties q x).volumes p i ≡ imbalance_at b p q
+imbalance_of b p q x i l m = ap (λ (row : List Imbalance). get_or row p i) (row_of b q x m) ∙ get_or_any (volumes_of b q) p i balanced (volume_placed b p q l m)

@@ -1,7 +1,8 @@
 // How a quarter of the book stands, and the calls that it meets.
-ghost use Rattle.std.specs.Prelude.{◌≡◌};
+ghost use Rattle.std.specs.Prelude.{◌≡◌, ◌≤◌, ◌*ℤ◌, unsigned_abs};
 ghost use Rattle.settlement.specs.Quarters.{quote_in, standing_cents};
 
+use metering::imbalance::Imbalance;
 use pricing::fault::QuoteFault;
 use pricing::quote::Quote;
 
@@ -22,6 +23,14 @@ impl Quarter {
             Quarter::Blank => None,
             Quarter::Priced(quote) | Quarter::Closed(quote) => Some(quote),
         }
+    }
+
+    // The volume at the standing price, in thousandths of a cent.
+    pub(crate) fn worth(self, volume: Imbalance) -> i64
+        ensures product { result ≡ volume.kwh *ℤ standing_cents self }
+        ensures bound { unsigned_abs result ≤ 149_998_500_000_000 }
+    {
+        volume.kwh() * self.cents()
     }
 
     // Cents of the standing price, 0 where there is none.

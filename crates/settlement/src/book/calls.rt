@@ -58,7 +58,7 @@ impl Book {
         let quarters = &self.quarters[..self.period_count];
         let mut sum = 0;
         for (quarter, volume) in quarters.iter().zip(self.parties[party].volumes.iter()) {
-            sum += volume.kwh() * quarter.cents();
+            sum += quarter.worth(*volume);
         }
         sum
     }

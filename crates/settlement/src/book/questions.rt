@@ -14,6 +14,7 @@ use units::euros::Amount;
 
 impl Book {
     /// How the quarter stands, with what is filed of it. Refused with 9.
+    #[tactic(auto, using(crate::proofs::Kept::quarter_said))]
     pub fn quarter(&self, period: usize) -> Result<Quarter, BookFault>
         ensures answers { result ≡ unless_fault (period_fault (in_book self.now) period) (quarter_at self.now period) }
         ensures as_the_run_says { (h : List Event) → Run h self.now → IfOk result (λ x. x ≡ quarter_after h period) }
@@ -23,6 +24,7 @@ impl Book {
     }
 
     /// The party's imbalance in the quarter. Refused with 9, then 10.
+    #[tactic(auto, using(crate::proofs::Kept::volume_said))]
     pub fn volume(&self, period: usize, party: usize) -> Result<Imbalance, BookFault>
         ensures answers { result ≡ unless_fault (place_fault (in_book self.now) period party) (imbalance_at self.now period party) }
         ensures as_the_run_says { (h : List Event) → Run h self.now → IfOk result (λ x. x.kwh ≡ volume_after h period party) }
@@ -34,6 +36,7 @@ impl Book {
     }
 
     /// All that the party was paid so far. Refused with 10.
+    #[tactic(auto, using(crate::proofs::Kept::payments_said))]
     pub fn payments(&self, party: usize) -> Result<Amount, BookFault>
         ensures answers { result ≡ unless_fault (party_fault (in_book self.now) party) (paid_to self.now party) }
         ensures as_the_run_says { (h : List Event) → Run h self.now → IfOk result (λ x. x.cents ≡ payments_since h party) }

@@ -10,30 +10,18 @@ use Rattle.settlement.specs.Books.{imbalance_at, quarter_at, volumes_of}
 use Rattle.settlement.specs.Quarters.{standing_cents}
 use Rattle.settlement.specs.declared.quarter.Quarter.TheVariants.{Blank}
 use Rattle.settlement.proofs.Readings.{row_of}
-use Rattle.settlement.proofs.Sums.{cents_small, sum_fits, sum_more, sum_small, term_small}
+use Rattle.settlement.proofs.Sums.{sum_fits, sum_more, sum_small}
 use Rattle.settlement.proofs.book.Book.worth.Goals as goal
 
--- volume times price, as it is read
-abbrev term : goal.After-cents → ℤ
-term c = c.kwh.result *ℤ c.cents.result
+-- this turn's term
+abbrev term : goal.After-worth-sum → ℤ
+term c = c.worth-sum.result
 
-small : (c : goal.After-cents) → nat_abs (term c) ≤ 149_998_500_000_000
-small c = rw (c.kwh.ensures, c.cents.ensures) (term_small c.in-Some.volume.now.kwh (standing_cents c.in-Some.quarter.now) c.in-Some.volume.now.bounded (cents_small c.in-Some.quarter.now))
-
-fits_term : (c : goal.After-cents) → SFits w64 (term c)
-fits_term c = omega (arith, ints, small c)
-
-pub overflow_mul-sum : goal.overflow_mul-sum
-overflow_mul-sum c =
-    let fv : SFits w64 c.kwh.result = record { sfits = c.kwh.type_inv } in
-    let fx : SFits w64 c.cents.result = record { sfits = c.cents.type_inv } in
-    simp to_z-of_z (fits_term c)
-
-abbrev so_far : goal.After-cents → ℕ
+abbrev so_far : goal.After-worth-sum → ℕ
 so_far c = length c.loop-quarter.yielded
 
 -- this turn's quarter and volume stand at the number of turns so far
-turn : (c : goal.After-cents) → (so_far c < c.args.self.now.period_count) × (c.in-Some.quarter.now ≡ quarter_at c.args.self.now (so_far c)) × (c.in-Some.volume.now ≡ imbalance_at c.args.self.now (so_far c) c.args.party)
+turn : (c : goal.After-worth-sum) → (so_far c < c.args.self.now.period_count) × (c.in-Some.quarter.now ≡ quarter_at c.args.self.now (so_far c)) × (c.in-Some.volume.now ≡ imbalance_at c.args.self.now (so_far c) c.args.party)
 turn c =
     let b = c.args.self.now in
     let n = b.period_count in
@@ -43,29 +31,25 @@ turn c =
     let l : so_far c < n = omega (arith, t.0, length-take n b.quarters) in
     (l, t.2 Blank ∙ get_or-take n b.quarters (so_far c) Blank l, t.3 balanced)
 
-term_is : (c : goal.After-cents) → term c ≡ (imbalance_at c.args.self.now (so_far c) c.args.party).kwh *ℤ standing_cents (quarter_at c.args.self.now (so_far c))
+term_is : (c : goal.After-worth-sum) → term c ≡ (imbalance_at c.args.self.now (so_far c) c.args.party).kwh *ℤ standing_cents (quarter_at c.args.self.now (so_far c))
 term_is c =
     let t = turn c in
-    rw (c.kwh.ensures, c.cents.ensures, t.1, t.2) refl
+    rw (c.worth-sum.ensures.product, t.1, t.2) refl
 
-sum_so_far : (c : goal.After-cents) → nat_abs c.loop-quarter.sum ≤ so_far c * 149_998_500_000_000
+sum_so_far : (c : goal.After-worth-sum) → nat_abs c.loop-quarter.sum ≤ so_far c * 149_998_500_000_000
 sum_so_far c = simp c.loop-quarter.sum-is at c.loop-quarter.invariant.4
 
-fits_sum : (c : goal.After-cents) → SFits w64 (c.loop-quarter.sum +ℤ term c)
-fits_sum c = sum_fits c.loop-quarter.sum (term c) (so_far c) (sum_so_far c) (omega (arith, (turn c).0, c.args.self.now.counts.1)) (small c)
+fits_sum : (c : goal.After-worth-sum) → SFits w64 (c.loop-quarter.sum +ℤ term c)
+fits_sum c = sum_fits c.loop-quarter.sum (term c) (so_far c) (sum_so_far c) (omega (arith, (turn c).0, c.args.self.now.counts.1)) c.worth-sum.ensures.bound
 
 pub overflow_add-sum : goal.overflow_add-sum
 overflow_add-sum c =
-    let fv : SFits w64 c.kwh.result = record { sfits = c.kwh.type_inv } in
-    let fx : SFits w64 c.cents.result = record { sfits = c.cents.type_inv } in
-    let ft = fits_term c in
+    let ft : SFits w64 (term c) = record { sfits = c.worth-sum.type_inv } in
     simp (to_z-of_z, c.loop-quarter.sum-is) (fits_sum c)
 
 pub loop-quarter-preserved : goal.loop-quarter-preserved
 loop-quarter-preserved c =
-    let fv : SFits w64 c.kwh.result = record { sfits = c.kwh.type_inv } in
-    let fx : SFits w64 c.cents.result = record { sfits = c.cents.type_inv } in
-    let ft = fits_term c in
+    let ft : SFits w64 (term c) = record { sfits = c.worth-sum.type_inv } in
     let fs = fits_sum c in (
       (tt, tt),
       tt,
@@ -73,5 +57,5 @@ loop-quarter-preserved c =
       rw (length_push c.loop-quarter.yielded (c.in-Some.quarter, c.in-Some.volume)) (simp (to_z-of_z, c.loop-quarter.sum-is) (sum_more c.loop-quarter.sum (term c) (so_far c)
           (λ p. (imbalance_at c.args.self.now p c.args.party).kwh *ℤ standing_cents (quarter_at c.args.self.now p))
           (sym c.loop-quarter.sum-is ∙ c.loop-quarter.invariant.3) (term_is c))),
-      rw (length_push c.loop-quarter.yielded (c.in-Some.quarter, c.in-Some.volume)) (simp (to_z-of_z, c.loop-quarter.sum-is) (sum_small c.loop-quarter.sum (term c) (so_far c) (sum_so_far c) (small c))),
+      rw (length_push c.loop-quarter.yielded (c.in-Some.quarter, c.in-Some.volume)) (simp (to_z-of_z, c.loop-quarter.sum-is) (sum_small c.loop-quarter.sum (term c) (so_far c) (sum_so_far c) c.worth-sum.ensures.bound)),
     )
