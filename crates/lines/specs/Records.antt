@@ -28,6 +28,7 @@ abbrev pub all_text : ℕ → List Handed → List ℕ
 all_text slot [] = []
 all_text slot (x ∷ xs) = handed_text slot x ++ all_text (slot + 1) xs
 
+-- the lines of a reading, or of the fault of the head
 abbrev pub reading_text : Result (List Handed) SheetFault → List ℕ
 reading_text (Ok xs) = all_text 0 xs
 reading_text (Err f) = fault_text f

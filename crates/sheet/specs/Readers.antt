@@ -34,6 +34,7 @@ by_prices (Some u) (Some v) = 4
 abbrev pub reported_view : ℕ → List ℕ → Demand → Option Price → Option Price → View
 reported_view place body d u v = record { place = place; lead = by_prices u v; body = body; tells = reported_slot d u v }
 
+-- what a value of the code says of a record
 abbrev pub seen : Record → View
 seen (rec.Unreported place) = record { place = place; lead = 0; body = []; tells = None }
 seen (rec.Demand d body place) = reported_view place body.now d None None
@@ -45,6 +46,7 @@ seen (rec.Both d u v body place) = reported_view place body.now d (Some u) (Some
 abbrev pub record_bytes : View → List ℕ
 record_bytes r = r.lead ∷ r.body
 
+-- the same of a record or its fault
 abbrev pub record_seen : Result Record RecordFault → Result View RecordFault
 record_seen (Ok r) = Ok (seen r)
 record_seen (Err f) = Err f
@@ -53,6 +55,7 @@ record_seen (Err f) = Err f
 abbrev pub view_of : Spot → List ℕ → Slot → ℕ → View
 view_of p s v n = record { place = p.place; lead = slice_index s 0; body = between 1 n s; tells = v }
 
+-- the record of what is told, or its fault
 abbrev pub viewed : Spot → List ℕ → Told → Result View RecordFault
 viewed p s (Ok g) = Ok (view_of p s g.0 g.1)
 viewed p s (Err f) = Err f
@@ -65,6 +68,7 @@ record_at p s = viewed p s (slot_told p s)
 abbrev pub Handed : Type 0
 Handed = Result View SheetFault
 
+-- what a value of the code says of it
 abbrev pub shown : Result Record SheetFault → Handed
 shown (Ok r) = Ok (seen r)
 shown (Err f) = Err f
@@ -97,6 +101,7 @@ handed (suc k) s i at = then_after (in_sheet (record_at (spot_at at i) (drop at 
 abbrev pub records_left : Reader → List Handed
 records_left r = handed (228 - r.slot) r.sheet.now r.slot r.at
 
+-- what is handed out after a head, from slot 0 on
 abbrev pub reading_after : List ℕ → Headed → Result (List Handed) SheetFault
 reading_after s (Ok h) = Ok (handed 228 s 0 h.end)
 reading_after s (Err f) = Err f
@@ -105,6 +110,7 @@ reading_after s (Err f) = Err f
 unfoldable pub reading : List ℕ → Result (List Handed) SheetFault
 reading s = reading_after s (head_of s)
 
+-- what a reader that was asked for has to hand out, or the fault in its place
 abbrev pub begun : Result Reader SheetFault → Result (List Handed) SheetFault
 begun (Ok r) = Ok (records_left r)
 begun (Err f) = Err f
