@@ -1,5 +1,5 @@
 -- Each call keeps that the book holds what the run says.
-use Rattle.std.proofs.Common.{◌≡◌, ℕ, zero, suc, ◌<◌, Bool, true, false, not, ◌&&◌, eqb, ◌≢◌, List, [], ◌∷◌, length, get_or, set, replicate, ℤ, ◌+ℤ◌, ◌-ℤ◌, ◌*ℤ◌, Some, None, Ok, Err, IfOk, is_some, Option, Result, sym, refl, ap, ◌∙◌, subst, ⊎_elim, arith, get_or-set_other, get_or-set_same}
+use Rattle.std.proofs.Common.{◌≡◌, ℕ, zero, suc, ◌<◌, Bool, true, false, not, ◌&&◌, eqb, ◌≢◌, List, [], ◌∷◌, length, get_or, set, replicate, ℤ, ◌+ℤ◌, ◌-ℤ◌, ◌*ℤ◌, Some, None, Ok, Err, is_some, Option, sym, refl, ap, ◌∙◌, subst, ⊎_elim, arith, get_or-set_other, get_or-set_same}
 use borrow.Author.Differences.{ints}
 use Rattle.std.specs.Option.{option_map}
 use Rattle.std.proofs.lemmas.Bool.{eqb-true, eq-eqb, ne_eqb, cases_Bool, cases_eq, and_parts, and_from}
@@ -13,12 +13,11 @@ use Rattle.units.specs.Rounding.{rounded}
 use Rattle.units.specs.declared.euros.Amount.{Amount}
 use Rattle.settlement.specs.Books.{Filed, Fresh, Metered, Paid, SameCounts, imbalance_at, in_book, paid_to, payments_in, quarter_at, volumes_in, volumes_of}
 use Rattle.settlement.specs.Events.{Event, priced, metered, closed, settled, Filing, Lawful, Rules, after_run, last_pricing, volume_after, payments_since, quarter_after, stands_as, was_closed, when}
-use Rattle.settlement.specs.Known.{party_fault, payable, period_fault, place_fault, unless_refused, volume_fault, worth}
+use Rattle.settlement.specs.Known.{party_fault, payable, period_fault, unless_refused, volume_fault, worth}
 use Rattle.settlement.specs.Payments.{nothing}
 use Rattle.settlement.specs.Quarters.{closed_as, closing, is_closed, quote_in, standing_cents}
 use Rattle.settlement.specs.Runs.{AllAnswered, AllFairlyPaid, Answered, Changes, Did, FairlyPaid, PricedAs, RightPrice, Run, begun, after, Sound, Whole, WithinBounds}
 use Rattle.settlement.specs.declared.book.Book.{Book}
-use Rattle.settlement.specs.declared.fault.BookFault.{BookFault}
 use Rattle.settlement.specs.declared.fault.BookFault.TheVariants.{QuarterClosed, Metering}
 use Rattle.settlement.specs.declared.party.Party.{Party}
 use Rattle.settlement.specs.declared.quarter.Quarter.{Quarter}

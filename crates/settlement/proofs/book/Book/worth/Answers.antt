@@ -1,5 +1,4 @@
 use Rattle.std.proofs.Common.{◌≡◌, ℕ, ◌*◌, ◌<◌, ◌≤◌, length, take, ℤ, ◌+ℤ◌, ◌*ℤ◌, nat_abs, sym, refl, ◌∙◌, arith, w64, SFits}
-use borrow.Author.Differences.{ints}
 use Rattle.std.specs.Iterator.Adapters.{zip_first, zip_second}
 use Rattle.std.specs.Slice.Iter.{iter_rest}
 use Rattle.std.proofs.lemmas.Int.{to_z-of_z}

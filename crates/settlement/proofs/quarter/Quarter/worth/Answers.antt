@@ -1,4 +1,4 @@
-use Rattle.std.proofs.Common.{◌≡◌, ◌≤◌, ℤ, ◌*ℤ◌, nat_abs, refl, arith, w64, SFits}
+use Rattle.std.proofs.Common.{◌≤◌, ℤ, ◌*ℤ◌, nat_abs, refl, arith, w64, SFits}
 use borrow.Author.Differences.{ints}
 use Rattle.std.proofs.lemmas.Int.{to_z-of_z}
 use Rattle.settlement.specs.Quarters.{standing_cents}
