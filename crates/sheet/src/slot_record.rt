@@ -1,7 +1,7 @@
 // The record of one slot.
-ghost use Rattle.std.specs.Prelude.{◌≡◌, ◌≤◌, length, IfOk};
-ghost use Rattle.sheet.specs.Records.{pair};
-ghost use Rattle.sheet.specs.Readers.{record_at, record_bytes, record_seen, seen};
+ghost use Rattle.std.specs.Prelude.{◌≡◌, ◌+◌, ◌≤◌, ◌∷◌, length, IfOk};
+ghost use Rattle.sheet.specs.Records.{by_lead, pair};
+ghost use Rattle.sheet.specs.Readers.{record_at, record_bytes, record_seen, seen, viewed};
 
 use crate::fault::{NumberFault, RecordFault, Spot};
 use crate::part::Part;
@@ -115,8 +115,59 @@ impl<'a> Part<'a> {
         Ok((demand, price, end))
     }
 
+    // The record of the lead byte at `at`, whose numbers these are.
+    #[inline(always)]
+    #[tactic(auto, unfolding(crate::specs::Records::by_lead))]
+    fn led_by(&self, lead: u8, at: Spot) -> Result<Record<'a>, RecordFault>
+        ensures reads { record_seen result ≡ viewed at (lead ∷ self.now.bytes.now) (by_lead at self.now.start lead self.now.bytes.now) }
+        ensures within { IfOk result (λ r. length (record_bytes (seen r)) ≤ 1 + length self.now.bytes.now) }
+    {
+        let place = at.place;
+        match lead {
+            0 => Ok(Record::Unreported { place }),
+            1 => {
+                let (demand, end) = self.quantity(0)?;
+                Ok(Record::Demand {
+                    demand,
+                    body: &self.bytes[..end],
+                    place,
+                })
+            }
+            2 => {
+                let (demand, up, end) = self.pair()?;
+                Ok(Record::Up {
+                    demand,
+                    up,
+                    body: &self.bytes[..end],
+                    place,
+                })
+            }
+            3 => {
+                let (demand, down, end) = self.pair()?;
+                Ok(Record::Down {
+                    demand,
+                    down,
+                    body: &self.bytes[..end],
+                    place,
+                })
+            }
+            4 => {
+                let (demand, up, n) = self.pair()?;
+                let (down, end) = self.quantity(n)?;
+                Ok(Record::Both {
+                    demand,
+                    up,
+                    down,
+                    body: &self.bytes[..end],
+                    place,
+                })
+            }
+            _ => Err(RecordFault::Lead(at)),
+        }
+    }
+
     // The record at the front.
-    #[tactic(auto, using(crate::proofs::Leads::slot_led), unfolding(crate::specs::Records::by_lead))]
+    #[tactic(auto, using(crate::proofs::Leads::slot_led))]
     pub(crate) fn record(&self) -> Result<Record<'a>, RecordFault>
         ensures reads { record_seen result ≡ record_at self.now.start self.now.bytes.now }
         ensures within { IfOk result (λ r. length (record_bytes (seen r)) ≤ length self.now.bytes.now) }
@@ -124,7 +175,6 @@ impl<'a> Part<'a> {
         let [lead, rest @ ..] = self.bytes else {
             return Err(RecordFault::Ends(self.start));
         };
-        let place = self.start.place;
         let numbers = Part {
             bytes: rest,
             start: Spot {
@@ -132,50 +182,6 @@ impl<'a> Part<'a> {
                 slot: self.start.slot,
             },
         };
-        match *lead {
-            0 => Ok(Record::Unreported { place }),
-            1 => {
-                let (demand, end) = numbers.quantity(0)?;
-                let body = &rest[..end];
-                Ok(Record::Demand {
-                    demand,
-                    body,
-                    place,
-                })
-            }
-            2 => {
-                let (demand, up, end) = numbers.pair()?;
-                let body = &rest[..end];
-                Ok(Record::Up {
-                    demand,
-                    up,
-                    body,
-                    place,
-                })
-            }
-            3 => {
-                let (demand, down, end) = numbers.pair()?;
-                let body = &rest[..end];
-                Ok(Record::Down {
-                    demand,
-                    down,
-                    body,
-                    place,
-                })
-            }
-            4 => {
-                let (demand, up, n) = numbers.pair()?;
-                let (down, end) = numbers.quantity(n)?;
-                let body = &rest[..end];
-                Ok(Record::Both {
-                    demand,
-                    up,
-                    down,
-                    body,
-                    place,
-                })
-            }
-            _ => Err(RecordFault::Lead(self.start)),
-        }
+        numbers.led_by(*lead, self.start)
     }
 }
