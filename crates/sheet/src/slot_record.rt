@@ -115,6 +115,24 @@ impl<'a> Part<'a> {
         Ok((demand, price, end))
     }
 
+    // The record of the lead byte 4 at `at`, whose numbers these are.
+    #[inline(always)]
+    #[tactic(auto, unfolding(crate::specs::Records::by_lead))]
+    fn both(&self, at: Spot) -> Result<Record<'a>, RecordFault>
+        ensures reads { record_seen result ≡ viewed at (4 ∷ self.now.bytes.now) (by_lead at self.now.start 4 self.now.bytes.now) }
+        ensures within { IfOk result (λ r. length (record_bytes (seen r)) ≤ 1 + length self.now.bytes.now) }
+    {
+        let (demand, up, n) = self.pair()?;
+        let (down, end) = self.quantity(n)?;
+        Ok(Record::Both {
+            demand,
+            up,
+            down,
+            body: &self.bytes[..end],
+            place: at.place,
+        })
+    }
+
     // The record of the lead byte at `at`, whose numbers these are.
     #[inline(always)]
     #[tactic(auto, unfolding(crate::specs::Records::by_lead))]
@@ -151,17 +169,7 @@ impl<'a> Part<'a> {
                     place,
                 })
             }
-            4 => {
-                let (demand, up, n) = self.pair()?;
-                let (down, end) = self.quantity(n)?;
-                Ok(Record::Both {
-                    demand,
-                    up,
-                    down,
-                    body: &self.bytes[..end],
-                    place,
-                })
-            }
+            4 => self.both(at),
             _ => Err(RecordFault::Lead(at)),
         }
     }
