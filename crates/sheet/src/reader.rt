@@ -22,6 +22,7 @@ impl<'a> Reader<'a> {
     ghost use Rattle.sheet.specs.Readers.{begun, handed, here, reading, record_bytes, records_left, seen, shown};
 
     /// The records of a sheet of any bytes, from slot 0 on; or the first fault of its head.
+    #[tactic(auto, unfolding(crate::specs::Readers::reading))]
     pub fn of(sheet: &'a [u8]) -> Result<Reader<'a>, SheetFault>
         ensures hands_out { begun result ≡ reading sheet.now }
         ensures by_records { IfOk result (λ r. ByRecords sheet.now (records_left r)) }
