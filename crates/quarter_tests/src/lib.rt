@@ -5,8 +5,8 @@
 mod bytes;
 #[cfg(test)]
 mod quarters;
-mod reference_price;
 #[cfg(test)]
 mod records;
+mod reference_price;
 #[cfg(test)]
 mod refusals;
