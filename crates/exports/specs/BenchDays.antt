@@ -2,7 +2,7 @@
 use Rattle.std.specs.Prelude.{◌≡◌, ℕ, zero, suc, ◌*◌, ◌<◌, Bool, false, true, cond, ◌&&◌, List, [], ◌∷◌, length, map, ℤ, pos, ◌+ℤ◌, ◌-ℤ◌, Some, None, Option, Ok, Err, ◌==◌, count_by, is_some, nat_le, nat_lt, slice_index, slice_index_or, take}
 use Rattle.std.specs.List.{range_with_len, slice_range}
 use Rattle.metering.specs.Imbalances.{Values, imbalance}
-use Rattle.pricing.specs.Quotes.{Quoted}
+use Rattle.pricing.specs.Quotes.{IsQuoteOfSource as Quoted}
 use Rattle.pricing.specs.Rulings.{finnish}
 use Rattle.pricing.specs.declared.fault.QuoteFault.{QuoteFault}
 use Rattle.settlement.specs.Known.{Known, payable}

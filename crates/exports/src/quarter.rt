@@ -1,19 +1,17 @@
 // Five prices of one sheet.
 ghost use Rattle.std.specs.Prelude.{◌≡◌};
-ghost use Rattle.exports.specs.Quarters.{Told, every_code, plain_answer, plain_figures, plain_outcome, refused_as, side};
+ghost use Rattle.exports.specs.Quarters.{IsPlainQuarter, direction_number, every_code, plain_answer, plain_quotes, refused_as};
+ghost use Rattle.exports.specs.declared.plain.PlainQuarter.{PlainQuarter};
 
 use crate::plain::{PlainQuarter, PlainQuote};
-use figures::gathering::figures_of;
-use figures::quarter_figures::Figures;
 use pricing::fault::QuoteFault;
-use pricing::quote::{Quote, QuoteDirection, quote_figures};
-use pricing::rulebook::Rulebook;
-use pricing::rulebooks::{CombinedAll, CombinedAutomatic, Finnish, MaxMin, WeightedAverage};
+use pricing::five_quotes::{FiveQuotes, five_quotes};
+use pricing::quote::{Quote, QuoteDirection};
 use sheet::sheet::Sheet;
 use units::refusal::Refusal;
 
-fn side_of(direction: QuoteDirection) -> u16
-    ensures { result ≡ side direction }
+fn number_of(direction: QuoteDirection) -> u16
+    ensures { result ≡ direction_number direction }
 {
     match direction {
         QuoteDirection::Up => 1,
@@ -40,7 +38,7 @@ impl From<Result<Quote, QuoteFault>> for PlainQuote {
         match answer {
             Ok(quote) => PlainQuote {
                 refusal: 0,
-                direction: side_of(quote.direction),
+                direction: number_of(quote.direction),
                 place: 0,
                 cents: quote.price.cents(),
             },
@@ -49,21 +47,17 @@ impl From<Result<Quote, QuoteFault>> for PlainQuote {
     }
 }
 
-fn plain_quote<R: Rulebook>(figures: &Figures, rulebook: &R) -> PlainQuote
-    ensures { result ≡ plain_outcome (R.Rulebook.ruling rulebook.now figures.now) figures.now.avoided }
-{
-    PlainQuote::from(quote_figures(figures, rulebook))
-}
+impl From<FiveQuotes> for PlainQuarter {
+    ghost from_gives = { λ q r. r ≡ plain_quotes q };
 
-fn plain_figures(figures: &Figures) -> PlainQuarter
-    ensures { result ≡ plain_figures figures.now }
-{
-    PlainQuarter {
-        weighted_average: plain_quote(figures, &WeightedAverage),
-        combined_automatic: plain_quote(figures, &CombinedAutomatic),
-        combined_all: plain_quote(figures, &CombinedAll),
-        max_min: plain_quote(figures, &MaxMin),
-        finnish: plain_quote(figures, &Finnish),
+    fn from(quotes: FiveQuotes) -> PlainQuarter {
+        PlainQuarter {
+            weighted_average: PlainQuote::from(quotes.weighted_average),
+            combined_automatic: PlainQuote::from(quotes.combined_automatic),
+            combined_all: PlainQuote::from(quotes.combined_all),
+            max_min: PlainQuote::from(quotes.max_min),
+            finnish: PlainQuote::from(quotes.finnish),
+        }
     }
 }
 
@@ -82,14 +76,12 @@ fn every_code(quote: PlainQuote) -> PlainQuarter
 /// The quotes of a sheet of any bytes. A refused sheet has its refusal under each code.
 #[unsafe(no_mangle)]
 pub extern "C" fn fumeliosa_quarter(bytes: &[u8]) -> PlainQuarter
-    ensures { Told bytes.now result }
+    ensures answer_in_plain_numbers { IsPlainQuarter bytes.now result }
+    ensures only_answer { (r : PlainQuarter) → IsPlainQuarter bytes.now r → r ≡ result }
 {
     let sheet = Sheet::read(bytes);
-    if let Err(fault) = sheet.check() {
-        return every_code(refused_as(fault));
-    }
-    match figures_of(&sheet) {
-        Ok(figures) => plain_figures(&figures),
-        Err(unreported) => every_code(refused_as(unreported)),
+    match sheet.check() {
+        Ok(()) => PlainQuarter::from(five_quotes(&sheet)),
+        Err(fault) => every_code(refused_as(fault)),
     }
 }

@@ -1,4 +1,4 @@
-pub mod Answers
-pub mod Quarters
-pub mod Records
 pub mod Texts
+pub mod Quarters
+pub mod Answers
+pub mod Records

@@ -1,13 +1,9 @@
 // One printed line: the quote of a quarter under one code, or its refusal.
-ghost use Rattle.std.specs.Prelude.{◌≡◌, Some};
-ghost use Rattle.lines.specs.Answers.{LineBy, QuotedOf};
-ghost use Rattle.lines.specs.Texts.{line_text, outcome_text};
-ghost use Rattle.lines.specs.declared.line.Line.{Line};
+ghost use Rattle.std.specs.Prelude.{Some};
+ghost use Rattle.lines.specs.Texts.{line_text};
 
-use figures::quarter_figures::Figures;
 use pricing::fault::QuoteFault;
-use pricing::quote::{Quote, quote_figures};
-use pricing::rulebook::Rulebook;
+use pricing::quote::Quote;
 use std::fmt;
 use units::euros::Amount;
 use units::refusal::Refusal;
@@ -34,17 +30,5 @@ impl fmt::Display for Line {
                 write!(f, "{code} ! {number}\n")
             }
         }
-    }
-}
-
-/// The line of figures under a rulebook.
-pub fn line_of<R: Rulebook>(figures: &Figures, rulebook: &R) -> Line
-    ensures answer { LineBy (QuotedOf figures.now) R.Rulebook.CODE (R.Rulebook.ruling rulebook.now) result }
-    ensures only_line { (l : Line) → LineBy (QuotedOf figures.now) R.Rulebook.CODE (R.Rulebook.ruling rulebook.now) l → l ≡ result }
-    ensures text { line_text result ≡ outcome_text R.Rulebook.CODE (R.Rulebook.ruling rulebook.now figures.now) figures.now.avoided }
-{
-    Line {
-        code: R::CODE,
-        answer: quote_figures(figures, rulebook),
     }
 }

@@ -1,15 +1,11 @@
-// All lines of one quarter: five quotes, or the refusal of its sheet.
-ghost use Rattle.std.specs.Prelude.{◌≡◌, Some, Err};
-ghost use Rattle.lines.specs.Answers.{Answered, FiveBy, QuotedOf};
-ghost use Rattle.lines.specs.Quarters.{Printed, five_outcomes, five_refusals, five_text, lines_text, printed};
+// All lines of one quarter: a line for each code, or the refusal of its sheet.
+ghost use Rattle.std.specs.Prelude.{◌≡◌, Some};
+ghost use Rattle.lines.specs.Answers.{IsAnswer, IsPrinted};
+ghost use Rattle.lines.specs.Quarters.{five_text, lines_text};
 ghost use Rattle.lines.specs.declared.quarter_lines.QuarterLines.{QuarterLines};
-ghost use Rattle.pricing.specs.declared.fault.QuoteFault.TheVariants.{Unreported};
 
-use crate::line::{Line, line_of};
-use figures::fault::UnreportedSlot;
-use figures::gathering::figures_of;
-use figures::quarter_figures::Figures;
-use pricing::fault::QuoteFault;
+use crate::line::Line;
+use pricing::five_quotes::{FiveQuotes, five_quotes};
 use pricing::rulebook::Rulebook;
 use pricing::rulebooks::{CombinedAll, CombinedAutomatic, Finnish, MaxMin, WeightedAverage};
 use sheet::fault::SheetFault;
@@ -20,35 +16,34 @@ use units::refusal::Refusal;
 /// The lines of codes 1 to 5.
 #[derive(Clone, Copy)]
 pub struct FiveLines {
-    pub weighted_average: Line,
-    pub combined_automatic: Line,
-    pub combined_all: Line,
-    pub max_min: Line,
-    pub finnish: Line,
+    pub quotes: FiveQuotes,
 }
 
 impl fmt::Display for FiveLines {
-    ghost output = { λ x. Some (five_text x) };
+    ghost output = { λ x. Some (five_text x.quotes) };
 
     fn fmt<W: fmt::Write>(&self, f: &mut fmt::Formatter<W>) -> fmt::Result {
-        let FiveLines {
+        let FiveQuotes {
             weighted_average,
             combined_automatic,
             combined_all,
             max_min,
             finnish,
-        } = self;
-        write!(
-            f,
-            "{weighted_average}{combined_automatic}{combined_all}{max_min}{finnish}"
-        )
+        } = self.quotes;
+        let line = |code, answer| Line { code, answer };
+        let first = line(WeightedAverage::CODE, weighted_average);
+        let second = line(CombinedAutomatic::CODE, combined_automatic);
+        let third = line(CombinedAll::CODE, combined_all);
+        let fourth = line(MaxMin::CODE, max_min);
+        let fifth = line(Finnish::CODE, finnish);
+        write!(f, "{first}{second}{third}{fourth}{fifth}")
     }
 }
 
-/// What is printed of a sheet.
+/// What is printed of a sheet: its quotes under codes 1 to 5, or its first fault.
 #[derive(Clone, Copy)]
 pub struct QuarterLines {
-    pub answer: Result<FiveLines, SheetFault>,
+    pub answer: Result<FiveQuotes, SheetFault>,
 }
 
 impl fmt::Display for QuarterLines {
@@ -56,7 +51,7 @@ impl fmt::Display for QuarterLines {
 
     fn fmt<W: fmt::Write>(&self, f: &mut fmt::Formatter<W>) -> fmt::Result {
         match self.answer {
-            Ok(lines) => write!(f, "{lines}"),
+            Ok(quotes) => write!(f, "{}", FiveLines { quotes }),
             Err(fault) => {
                 let number = fault.number();
                 let place = fault.place();
@@ -66,57 +61,21 @@ impl fmt::Display for QuarterLines {
     }
 }
 
-fn quoted(figures: &Figures) -> FiveLines
-    ensures answers { FiveBy (QuotedOf figures.now) result }
-    ensures text { five_text result ≡ five_outcomes figures.now }
-{
-    FiveLines {
-        weighted_average: line_of(figures, &WeightedAverage),
-        combined_automatic: line_of(figures, &CombinedAutomatic),
-        combined_all: line_of(figures, &CombinedAll),
-        max_min: line_of(figures, &MaxMin),
-        finnish: line_of(figures, &Finnish),
-    }
-}
-
-fn unreported(slot: UnreportedSlot) -> FiveLines
-    ensures answers { FiveBy (λ code ruling answer. answer ≡ Err (Unreported slot)) result }
-    ensures text { five_text result ≡ five_refusals 7 }
-{
-    let line = |code| Line {
-        code,
-        answer: Err(QuoteFault::from(slot)),
-    };
-    FiveLines {
-        weighted_average: line(WeightedAverage::CODE),
-        combined_automatic: line(CombinedAutomatic::CODE),
-        combined_all: line(CombinedAll::CODE),
-        max_min: line(MaxMin::CODE),
-        finnish: line(Finnish::CODE),
-    }
-}
-
-// It is decoded once, and its figures are worked out once.
-fn five_lines_of(bytes: &[u8]) -> Result<FiveLines, SheetFault>
-    ensures answer { Answered bytes.now (record { answer = result }) }
-    ensures only_answer { (l : QuarterLines) → Answered bytes.now l → l ≡ record { answer = result } }
-    ensures text { Printed bytes.now (printed result) }
+fn quotes_of(bytes: &[u8]) -> Result<FiveQuotes, SheetFault>
+    ensures answer { IsAnswer bytes.now (record { answer = result }) }
 {
     let sheet = Sheet::read(bytes);
     sheet.check()?;
-    match figures_of(&sheet) {
-        Ok(figures) => Ok(quoted(&figures)),
-        Err(slot) => Ok(unreported(slot)),
-    }
+    Ok(five_quotes(&sheet))
 }
 
 /// The lines of a sheet of any bytes.
 pub fn lines_of(bytes: &[u8]) -> QuarterLines
-    ensures answer { Answered bytes.now result }
-    ensures only_answer { (l : QuarterLines) → Answered bytes.now l → l ≡ result }
-    ensures text { Printed bytes.now (lines_text result) }
+    ensures answer { IsAnswer bytes.now result }
+    ensures only_answer { (l : QuarterLines) → IsAnswer bytes.now l → l ≡ result }
+    ensures text { IsPrinted bytes.now (lines_text result) }
 {
     QuarterLines {
-        answer: five_lines_of(bytes),
+        answer: quotes_of(bytes),
     }
 }

@@ -10,12 +10,12 @@ use Rattle.source.specs.declared.direction.Direction.TheVariants.{Up, Down}
 use Rattle.units.specs.Exact.{Exact}
 use Rattle.units.specs.Rounding.{Nearest}
 use Rattle.units.specs.declared.price.Price.{Price}
-use Rattle.pricing.specs.Bounds.{BoundedBy, HalfCentFromMean}
-use Rattle.pricing.specs.Laws.{Beyond, KeepsLaws}
-use Rattle.pricing.specs.Outcomes.{Outcome, priced}
-use Rattle.pricing.specs.Quotes.{standing}
+use Rattle.pricing.specs.Bounds.{IsBoundedIn, HalfCentFromMean}
+use Rattle.pricing.specs.FourLaws.{Beyond, KeepsLaws}
+use Rattle.pricing.specs.Outcomes.{Outcome, directed}
+use Rattle.pricing.specs.Quotes.{quoted_direction}
 use Rattle.pricing.specs.declared.ruling.Net.{Net}
-use Rattle.pricing.specs.Reach.{cross}
+use Rattle.pricing.specs.laws.Reach.{cross}
 
 -- n / d is at most half a cent above p, and at most half a cent below
 near_above : (n p : ℤ) (d : ℕ) → Nearest n d p → (n *ℤ pos 2) ≤ℤ (((p *ℤ pos 2) +ℤ pos 1) *ℤ pos d)
@@ -34,7 +34,7 @@ half_cent_lem : (d : Direction) (s : Side) (q : Exact) (p : ℤ) → 1 ≤ q.d �
 half_cent_lem Up s q p some near b = cross (value s) q.n ((p *ℤ pos 2) +ℤ pos 1) (volume s) q.d 2 some b (near_above q.n p q.d near)
 half_cent_lem Down s q p some near b = cross ((p *ℤ pos 2) -ℤ pos 1) q.n (value s) 2 q.d (volume s) some (near_below q.n p q.d near) b
 
-pub quote_bounded : (net : Net) (f : Figures) (o : Outcome) (d : Direction) (q : Exact) (p : Price) → KeepsLaws net f o → priced d q ≡ o → Nearest q.n q.d p.cents
-    → ((low high : ℤ) → (low *ℤ pos q.d) ≤ℤ q.n → q.n ≤ℤ (high *ℤ pos q.d) → (low ≤ℤ p.cents) × (p.cents ≤ℤ high)) → BoundedBy (standing d) f p
+pub quote_bounded : (net : Net) (f : Figures) (o : Outcome) (d : Direction) (q : Exact) (p : Price) → KeepsLaws net f o → directed d q ≡ o → Nearest q.n q.d p.cents
+    → ((low high : ℤ) → (low *ℤ pos q.d) ≤ℤ q.n → q.n ≤ℤ (high *ℤ pos q.d) → (low ≤ℤ p.cents) × (p.cents ≤ℤ high)) → IsBoundedIn (quoted_direction d) f p
 quote_bounded net f o d q p laws e near keeps =
     grind (arith, laws.formed, laws.mean, half_cent_lem d (side_in d f) q p.cents, keeps (low_of (side_in d f).formed) (high_of (side_in d f).formed))

@@ -19,29 +19,31 @@ abbrev pub HalfCentFromMean : Direction → Side → ℤ → Type 0
 HalfCentFromMean dir.Up s p = (value s *ℤ pos 2) ≤ℤ (((p *ℤ pos 2) +ℤ pos 1) *ℤ pos (volume s))
 HalfCentFromMean dir.Down s p = (((p *ℤ pos 2) -ℤ pos 1) *ℤ pos (volume s)) ≤ℤ (value s *ℤ pos 2)
 
--- a price is formed in the direction, and p lies between the lowest and the highest such
-pub record Bounded (d : Direction) (s : Side) (p : ℤ) : Type 0 where
+-- a price is formed in the direction, p lies between the lowest and the highest such, and is at most half a cent less extreme than the mean
+pub record IsBounded (d : Direction) (s : Side) (p : ℤ) : Type 0 where
   pub formed : is_some s.formed ≡ true
   pub low : low_of s.formed ≤ℤ p
   pub high : p ≤ℤ high_of s.formed
   pub mean : HalfCentFromMean d s p
 
-abbrev pub BoundedBy : QuoteDirection → Figures → Price → Type 0
-BoundedBy Up f p = Bounded dir.Up f.up p.cents
-BoundedBy Down f p = Bounded dir.Down f.down p.cents
-BoundedBy Avoided f p = f.avoided ≡ Some p
+-- by the direction of a quote; under A the price is the avoided value
+abbrev pub IsBoundedIn : QuoteDirection → Figures → Price → Type 0
+IsBoundedIn Up f p = IsBounded dir.Up f.up p.cents
+IsBoundedIn Down f p = IsBounded dir.Down f.down p.cents
+IsBoundedIn Avoided f p = f.avoided ≡ Some p
 
--- the bounds of a quote
-abbrev pub QuoteBounded : Figures → Answer → Type 0
-QuoteBounded f (Ok q) = BoundedBy q.direction f q.price
-QuoteBounded f (Err e) = Unit {0}
+-- a quote of figures lies in its bounds
+abbrev pub IsBoundedQuote : Figures → Answer → Type 0
+IsBoundedQuote f (Ok q) = IsBoundedIn q.direction f q.price
+IsBoundedQuote f (Err e) = Unit {0}
 
--- the same, of the figures that a source gives
-pub record BoundedFrom (m : Meaning) (q : Quote) : Type 0 where
+-- a quote lies in the bounds of the figures that a source gives
+pub record IsBoundedByFigures (m : Meaning) (q : Quote) : Type 0 where
   pub figures : Figures
   pub gives : Gives m figures
-  pub bounded : BoundedBy q.direction figures q.price
+  pub bounded : IsBoundedIn q.direction figures q.price
 
-abbrev pub SourceBounded : Meaning → Answer → Type 0
-SourceBounded m (Ok q) = BoundedFrom m q
-SourceBounded m (Err e) = Unit {0}
+-- an answer of a source: a quote lies in its bounds
+abbrev pub IsBoundedQuoteOfSource : Meaning → Answer → Type 0
+IsBoundedQuoteOfSource m (Ok q) = IsBoundedByFigures m q
+IsBoundedQuoteOfSource m (Err e) = Unit {0}

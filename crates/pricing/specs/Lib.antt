@@ -1,10 +1,8 @@
-pub mod Bounds
-pub mod Laws
 pub mod Outcomes
-pub mod Quotes
-pub mod Refusals
 pub mod Rulings
-pub mod Lawful
-pub mod Covers
-pub mod Reach
-pub mod Fits
+pub mod FourLaws
+pub mod Quotes
+pub mod FiveQuotes
+pub mod Bounds
+pub mod Refusals
+pub mod laws

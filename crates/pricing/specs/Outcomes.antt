@@ -7,15 +7,17 @@ use Rattle.source.specs.declared.direction.Direction.{Direction}
 use Rattle.units.specs.Exact.{Exact, exact_of}
 use Rattle.pricing.specs.declared.ruling.Net.{Net}
 use Rattle.pricing.specs.declared.ruling.Net.TheVariants.{Local, Zone}
-use Rattle.pricing.specs.declared.ruling.Priced.{Priced}
+use Rattle.pricing.specs.declared.ruling.DirectedPrice.{DirectedPrice}
 
+-- the result for a set of figures
 pub data Outcome : Type 0 where
   avoided : Outcome
-  priced : Direction → Exact → Outcome
+  directed : Direction → Exact → Outcome
 
-abbrev pub outcome_of : Option Priced → Outcome
+-- what the code has as a ruling
+abbrev pub outcome_of : Option DirectedPrice → Outcome
 outcome_of None = avoided
-outcome_of (Some p) = priced p.direction (exact_of p.price)
+outcome_of (Some p) = directed p.direction (exact_of p.price)
 
 -- the net that decides
 abbrev pub net_of : Net → Figures → ℤ
@@ -25,12 +27,13 @@ net_of Zone f = f.zone_net.kw
 -- where no component exists, the result is avoided
 abbrev pub outcome_at : Direction → Component → Outcome
 outcome_at d None = avoided
-outcome_at d (Some q) = priced d q
+outcome_at d (Some q) = directed d q
 
--- by the direction of the deciding net, the price in that direction
+-- the price in a direction, or avoided where there is none
 abbrev pub decided_in : Option Direction → (Direction → Component) → Outcome
 decided_in None price = avoided
 decided_in (Some d) price = outcome_at d (price d)
 
+-- by the deciding net, the price in its direction; avoided at 0
 abbrev pub decided : ℤ → (Direction → Component) → Outcome
 decided z price = decided_in (toward z) price

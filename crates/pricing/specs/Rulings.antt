@@ -8,46 +8,50 @@ use Rattle.pricing.specs.Outcomes.{Outcome, decided, net_of}
 use Rattle.pricing.specs.declared.ruling.Net.{Net}
 use Rattle.pricing.specs.declared.ruling.Net.TheVariants.{Local, Zone}
 
--- a price for each direction and side
-abbrev pub Pricing : Type 0
-Pricing = Direction → Side → Component
+-- a rulebook's rule of price: the exact price, if there is one, from a direction and its figures
+abbrev pub PriceRule : Type 0
+PriceRule = Direction → Side → Component
 
 -- 1: the weighted mean
-abbrev pub mean_price : Pricing
+abbrev pub mean_price : PriceRule
 mean_price d s = weighted_mean s
 
 -- 2: the extreme of the automatic mean and the counting manual prices
-abbrev pub automatic_or_manual : Pricing
+abbrev pub automatic_or_manual : PriceRule
 automatic_or_manual d s = extreme d (automatic_mean s) (over_manual counting_price d s)
 
 -- 3: the extreme of the weighted mean and the counting manual prices
-abbrev pub mean_or_manual : Pricing
+abbrev pub mean_or_manual : PriceRule
 mean_or_manual d s = extreme d (weighted_mean s) (over_manual counting_price d s)
 
 -- 4: the extreme of all counting prices
-abbrev pub extreme_counting : Pricing
+abbrev pub extreme_counting : PriceRule
 extreme_counting d s = extreme d (cycles_extreme d s) (over_manual counting_price d s)
 
 -- 5: the weighted mean if a manual slot counts, else the extreme of the automatic mean and the formed manual prices
-abbrev pub finnish_price : Pricing
+abbrev pub finnish_price : PriceRule
 finnish_price d s = if manual_counts s then weighted_mean s else extreme d (automatic_mean s) (over_manual formed_price d s)
 
 -- the price in the direction of the deciding net
-abbrev pub by_net : Net → Pricing → Figures → Outcome
+abbrev pub by_net : Net → PriceRule → Figures → Outcome
 by_net net price f = decided (net_of net f) (λ d. price d (side_in d f))
 
--- the rulebooks of codes 1 to 4 go by the local net, that of code 5 by the zone's
+-- code 1, by the local net as codes 2 to 4
 abbrev pub weighted_average : Figures → Outcome
 weighted_average f = by_net Local mean_price f
 
+-- code 2
 abbrev pub combined_automatic : Figures → Outcome
 combined_automatic f = by_net Local automatic_or_manual f
 
+-- code 3
 abbrev pub combined_all : Figures → Outcome
 combined_all f = by_net Local mean_or_manual f
 
+-- code 4
 abbrev pub max_min : Figures → Outcome
 max_min f = by_net Local extreme_counting f
 
+-- code 5, by the zone's net
 abbrev pub finnish : Figures → Outcome
 finnish f = by_net Zone finnish_price f

@@ -2,6 +2,7 @@
 #![tactic(auto)]
 
 pub mod fault;
+pub mod five_quotes;
 pub mod quote;
 pub mod rulebook;
 pub mod rulebooks;

@@ -2,9 +2,9 @@
 ghost use Rattle.std.specs.Prelude.{◌≡◌, [], ◌∷◌, Some};
 ghost use Rattle.figures.specs.Gathering.{Gives};
 ghost use Rattle.figures.specs.declared.quarter_figures.Figures.{Figures};
-ghost use Rattle.pricing.specs.Bounds.{QuoteBounded, SourceBounded};
-ghost use Rattle.pricing.specs.Laws.{KeepsLaws};
-ghost use Rattle.pricing.specs.Quotes.{Answer, Quoted, Quotes, letter, standing};
+ghost use Rattle.pricing.specs.Bounds.{IsBoundedQuote, IsBoundedQuoteOfSource};
+ghost use Rattle.pricing.specs.FourLaws.{KeepsLaws};
+ghost use Rattle.pricing.specs.Quotes.{Answer, IsQuote, IsQuoteOfSource, letter, quoted_direction};
 
 use crate::fault::QuoteFault;
 use crate::rulebook::Rulebook;
@@ -32,7 +32,7 @@ pub struct Quote {
 }
 
 impl From<Direction> for QuoteDirection {
-    ghost from_gives = { λ d r. r ≡ standing d };
+    ghost from_gives = { λ d r. r ≡ quoted_direction d };
 
     fn from(direction: Direction) -> QuoteDirection {
         match direction {
@@ -56,13 +56,13 @@ impl fmt::Display for QuoteDirection {
 
 /// The quote of figures that were worked out before.
 pub fn quote_figures<R: Rulebook>(figures: &Figures, rulebook: &R) -> Result<Quote, QuoteFault>
-    ensures value { Quotes R.Rulebook.CODE (R.Rulebook.ruling rulebook.now figures.now) figures.now.avoided result }
-    ensures only_answer { (a : Answer) → Quotes R.Rulebook.CODE (R.Rulebook.ruling rulebook.now figures.now) figures.now.avoided a → a ≡ result }
+    ensures quote_of_the_ruling { IsQuote R.Rulebook.CODE (R.Rulebook.ruling rulebook.now figures.now) figures.now.avoided result }
+    ensures only_answer { (a : Answer) → IsQuote R.Rulebook.CODE (R.Rulebook.ruling rulebook.now figures.now) figures.now.avoided a → a ≡ result }
     ensures laws_kept { KeepsLaws R.Rulebook.NET figures.now (R.Rulebook.ruling rulebook.now figures.now) }
-    ensures bounds_kept { QuoteBounded figures.now result }
+    ensures bounds_kept { IsBoundedQuote figures.now result }
 {
     let code = R::CODE;
-    let Some(priced) = rulebook.decide(figures) else {
+    let Some(directed) = rulebook.decide(figures) else {
         let price = figures.avoided.ok_or(QuoteFault::NoAvoidedValue)?;
         return Ok(Quote {
             code,
@@ -72,8 +72,8 @@ pub fn quote_figures<R: Rulebook>(figures: &Figures, rulebook: &R) -> Result<Quo
     };
     Ok(Quote {
         code,
-        direction: QuoteDirection::from(priced.direction),
-        price: priced.price.nearest_cent(),
+        direction: QuoteDirection::from(directed.direction),
+        price: directed.price.nearest_cent(),
     })
 }
 
@@ -82,10 +82,10 @@ pub fn quote_source<S: PriceSource, R: Rulebook>(
     source: &S,
     rulebook: &R,
 ) -> Result<Quote, QuoteFault>
-    ensures value { Quoted (S.PriceSource.means source.now) R.Rulebook.CODE (R.Rulebook.ruling rulebook.now) result }
-    ensures only_answer { (a : Answer) → Quoted (S.PriceSource.means source.now) R.Rulebook.CODE (R.Rulebook.ruling rulebook.now) a → a ≡ result }
+    ensures quote_of_the_source { IsQuoteOfSource (S.PriceSource.means source.now) R.Rulebook.CODE (R.Rulebook.ruling rulebook.now) result }
+    ensures only_answer { (a : Answer) → IsQuoteOfSource (S.PriceSource.means source.now) R.Rulebook.CODE (R.Rulebook.ruling rulebook.now) a → a ≡ result }
     ensures laws_kept { (f : Figures) → Gives (S.PriceSource.means source.now) f → KeepsLaws R.Rulebook.NET f (R.Rulebook.ruling rulebook.now f) }
-    ensures bounds_kept { SourceBounded (S.PriceSource.means source.now) result }
+    ensures bounds_kept { IsBoundedQuoteOfSource (S.PriceSource.means source.now) result }
 {
     let figures = figures_of(source)?;
     quote_figures(&figures, rulebook)

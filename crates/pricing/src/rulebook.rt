@@ -2,7 +2,7 @@
 ghost use Rattle.std.specs.Prelude.{◌≡◌, ℕ};
 ghost use Rattle.figures.specs.declared.quarter_figures.Figures.{Figures};
 ghost use Rattle.pricing.specs.declared.ruling.Net.{Net};
-ghost use Rattle.pricing.specs.Laws.{KeepsLaws};
+ghost use Rattle.pricing.specs.FourLaws.{KeepsLaws};
 ghost use Rattle.pricing.specs.Outcomes.{Outcome, outcome_of};
 
 use crate::ruling::{Net, Ruling};

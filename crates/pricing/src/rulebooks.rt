@@ -1,10 +1,10 @@
 // The five rulebooks: four Nordic design options and the Finnish edition.
 ghost use Rattle.pricing.specs.declared.ruling.Net.TheVariants.{Local, Zone};
 ghost use Rattle.pricing.specs.Rulings.{combined_all, combined_automatic, finnish, max_min, weighted_average, mean_price, automatic_or_manual, mean_or_manual, extreme_counting, finnish_price};
-ghost use Rattle.pricing.specs.Lawful.{rulebook_keeps, mean_lawful, automatic_lawful, combined_lawful, extreme_lawful, finnish_lawful};
+ghost use Rattle.pricing.specs.laws.Lawful.{rulebook_keeps, mean_lawful, automatic_lawful, combined_lawful, extreme_lawful, finnish_lawful};
 
 use crate::rulebook::Rulebook;
-use crate::ruling::{Net, Priced, Ruling};
+use crate::ruling::{Net, DirectedPrice, Ruling};
 use figures::components::extreme_of;
 use figures::quarter_figures::Figures;
 use source::direction::Direction;
@@ -27,7 +27,7 @@ impl Rulebook for WeightedAverage {
     fn decide(&self, figures: &Figures) -> Ruling {
         let direction = Direction::of_net(Self::NET.of(figures))?;
         let price = figures.weighted_mean(direction)?;
-        Some(Priced { direction, price })
+        Some(DirectedPrice { direction, price })
     }
 
     ghost keeps_laws = { λ r. rulebook_keeps Local mean_price mean_lawful };
@@ -52,7 +52,7 @@ impl Rulebook for CombinedAutomatic {
         let direction = Direction::of_net(Self::NET.of(figures))?;
         let manual = figures.counting_manual(direction);
         let price = extreme_of(direction, figures.automatic_mean(direction), manual)?;
-        Some(Priced { direction, price })
+        Some(DirectedPrice { direction, price })
     }
 
     ghost keeps_laws = { λ r. rulebook_keeps Local automatic_or_manual automatic_lawful };
@@ -77,7 +77,7 @@ impl Rulebook for CombinedAll {
         let direction = Direction::of_net(Self::NET.of(figures))?;
         let manual = figures.counting_manual(direction);
         let price = extreme_of(direction, figures.weighted_mean(direction), manual)?;
-        Some(Priced { direction, price })
+        Some(DirectedPrice { direction, price })
     }
 
     ghost keeps_laws = { λ r. rulebook_keeps Local mean_or_manual combined_lawful };
@@ -102,7 +102,7 @@ impl Rulebook for MaxMin {
         let direction = Direction::of_net(Self::NET.of(figures))?;
         let manual = figures.counting_manual(direction);
         let price = extreme_of(direction, figures.counting_cycles(direction), manual)?;
-        Some(Priced { direction, price })
+        Some(DirectedPrice { direction, price })
     }
 
     ghost keeps_laws = { λ r. rulebook_keeps Local extreme_counting extreme_lawful };
@@ -127,7 +127,7 @@ impl Rulebook for Finnish {
         match Direction::of_net(Self::NET.of(figures)) {
             Some(direction) if figures.manual_counts(direction) => {
                 let mean = figures.weighted_mean(direction)?;
-                Some(Priced {
+                Some(DirectedPrice {
                     direction,
                     price: mean,
                 })
@@ -135,7 +135,7 @@ impl Rulebook for Finnish {
             Some(direction) => {
                 let manual = figures.formed_manual(direction);
                 let extreme = extreme_of(direction, figures.automatic_mean(direction), manual)?;
-                Some(Priced {
+                Some(DirectedPrice {
                     direction,
                     price: extreme,
                 })

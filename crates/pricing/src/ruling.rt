@@ -8,13 +8,13 @@ use units::ratio::Ratio;
 
 /// A direction with its exact price.
 #[derive(Clone, Copy)]
-pub struct Priced {
+pub struct DirectedPrice {
     pub direction: Direction,
     pub price: Ratio,
 }
 
-/// The priced direction, or nothing where the result is avoided.
-pub type Ruling = Option<Priced>;
+/// A direction with its exact price, or nothing where the result is avoided.
+pub type Ruling = Option<DirectedPrice>;
 
 /// The net whose sign decides the direction.
 #[derive(Clone, Copy, PartialEq, Eq)]

@@ -3,13 +3,14 @@ use Rattle.std.specs.Prelude.{Some, None, Option}
 use Rattle.std.specs.Option.{option_map}
 use Rattle.figures.specs.Components.{Component, extreme, farthest, weighted_mean}
 use Rattle.figures.specs.declared.span.Span.{Span}
-use Rattle.pricing.specs.Rulings.{Pricing}
+use Rattle.pricing.specs.Rulings.{PriceRule}
 use Rattle.source.specs.Directions.{picked}
 use Rattle.source.specs.declared.direction.Direction.{Direction}
 use Rattle.source.specs.declared.direction.Direction.TheVariants.{Up, Down}
 use Rattle.units.specs.Exact.{whole}
 use Rattle.units.specs.declared.price.Price.{Price}
 
+-- the other direction
 abbrev pub opposite : Direction → Direction
 opposite d = picked d Down Up
 
@@ -23,5 +24,5 @@ mean_or_reference d None reference = None
 mean_or_reference d (Some mean) reference = extreme d (Some mean) reference
 
 -- the extreme of the weighted mean and the reference price
-abbrev pub reference_price : Price → Pricing
+abbrev pub reference_price : Price → PriceRule
 reference_price p d s = mean_or_reference d (weighted_mean s) (reference_within p d s.formed)

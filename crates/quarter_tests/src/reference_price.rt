@@ -1,17 +1,17 @@
 // A rulebook from outside the library, which holds a price of its own.
 ghost use Rattle.std.specs.Prelude.{◌≡◌};
 ghost use Rattle.figures.specs.Components.{component_of};
-ghost use Rattle.pricing.specs.Lawful.{rulebook_keeps};
+ghost use Rattle.pricing.specs.laws.Lawful.{rulebook_keeps};
 ghost use Rattle.pricing.specs.Rulings.{by_net};
 ghost use Rattle.pricing.specs.declared.ruling.Net.TheVariants.{Zone};
-ghost use Rattle.quarter_tests.specs.Keeping.{reference_lawful};
+ghost use Rattle.quarter_tests.specs.laws.Keeping.{reference_lawful};
 ghost use Rattle.quarter_tests.specs.References.{reference_price, reference_within};
 
 use figures::components::extreme_of;
 use figures::quarter_figures::Figures;
 use figures::span::Span;
 use pricing::rulebook::Rulebook;
-use pricing::ruling::{Net, Priced, Ruling};
+use pricing::ruling::{Net, DirectedPrice, Ruling};
 use source::direction::Direction;
 use units::price::Price;
 use units::ratio::Ratio;
@@ -50,7 +50,7 @@ impl Rulebook for Referenced {
         let mean = figures.weighted_mean(direction)?;
         let reference = self.within(direction, figures.side(direction).formed);
         let price = extreme_of(direction, Some(mean), reference)?;
-        Some(Priced { direction, price })
+        Some(DirectedPrice { direction, price })
     }
 
     ghost keeps_laws = { λ r. rulebook_keeps Zone (reference_price r.reference) (reference_lawful r.reference) };

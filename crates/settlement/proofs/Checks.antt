@@ -2,7 +2,7 @@
 use Rattle.std.proofs.Common.{◌≡◌, ℕ, ◌<◌, ◌≤◌, Bool, true, false, Some, None, Ok, Err, Option, Result, refl, ap, arith}
 use Rattle.std.proofs.lemmas.Bool.{ltb-true, lt-ltb, le-ltb, not-true}
 use Rattle.metering.specs.Imbalances.{or_next, unless}
-use Rattle.pricing.specs.Quotes.{Answer, Quoted}
+use Rattle.pricing.specs.Quotes.{Answer, IsQuoteOfSource as Quoted}
 use Rattle.pricing.specs.declared.quote.Quote.{Quote}
 use Rattle.source.specs.Meanings.{Meaning}
 use Rattle.settlement.specs.Events.{Rules}

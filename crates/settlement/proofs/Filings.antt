@@ -4,10 +4,10 @@ use borrow.Author.Differences.{ints}
 use Rattle.figures.specs.Gathering.{Gives}
 use Rattle.figures.specs.declared.quarter_figures.Figures.{Figures}
 use Rattle.pricing.proofs.Bounding.{quote_bounded}
-use Rattle.pricing.specs.Bounds.{Bounded, BoundedBy}
-use Rattle.pricing.specs.Laws.{KeepsLaws}
-use Rattle.pricing.specs.Outcomes.{Outcome, avoided, priced as ruled}
-use Rattle.pricing.specs.Quotes.{Quoted, Quotes, standing}
+use Rattle.pricing.specs.Bounds.{IsBounded as Bounded, IsBoundedIn as BoundedBy}
+use Rattle.pricing.specs.FourLaws.{KeepsLaws}
+use Rattle.pricing.specs.Outcomes.{Outcome, avoided, directed as ruled}
+use Rattle.pricing.specs.Quotes.{IsQuote as Quotes, IsQuoteOfSource as Quoted, quoted_direction as standing}
 use Rattle.pricing.specs.declared.quote.Quote.{Quote}
 use Rattle.pricing.specs.declared.quote.QuoteDirection.{QuoteDirection}
 use Rattle.pricing.specs.declared.quote.QuoteDirection.TheVariants.{Up, Down, Avoided}

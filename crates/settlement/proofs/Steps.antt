@@ -5,7 +5,7 @@ use Rattle.std.specs.Option.{option_map}
 use Rattle.metering.specs.Imbalances.{Values, imbalance, imbalance_of, kwh_of, metering_fault, or_next, unless, unless_fault}
 use Rattle.metering.specs.declared.fault.MeteringFault.{MeteringFault}
 use Rattle.metering.specs.declared.imbalance.Imbalance.{Imbalance}
-use Rattle.pricing.specs.Quotes.{Answer, Quoted}
+use Rattle.pricing.specs.Quotes.{Answer, IsQuoteOfSource as Quoted}
 use Rattle.source.specs.Meanings.{Meaning}
 use Rattle.settlement.specs.Events.{Rules}
 use Rattle.settlement.specs.Known.{Known, closed_fault, party_fault, payable, period_fault, pricing_fault, unless_refused, volume_fault}

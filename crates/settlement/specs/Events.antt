@@ -3,7 +3,7 @@ use Rattle.std.specs.Prelude.{ℕ, Bool, true, false, cond, ◌&&◌, ◌||◌, 
 use Rattle.figures.specs.declared.quarter_figures.Figures.{Figures}
 use Rattle.metering.specs.Imbalances.{Values, imbalance, or_next}
 use Rattle.metering.specs.declared.imbalance.Imbalance.{Imbalance}
-use Rattle.pricing.specs.Laws.{KeepsLaws}
+use Rattle.pricing.specs.FourLaws.{KeepsLaws}
 use Rattle.pricing.specs.Outcomes.{Outcome}
 use Rattle.pricing.specs.declared.ruling.Net.{Net}
 use Rattle.source.specs.Meanings.{Meaning}

@@ -5,9 +5,9 @@ use Rattle.figures.specs.Sides.{side_of}
 use Rattle.figures.specs.declared.quarter_figures.Figures.{Figures}
 use Rattle.metering.specs.Imbalances.{imbalance, kwh_of, or_next, unless, unless_fault}
 use Rattle.metering.specs.declared.imbalance.Imbalance.{Imbalance}
-use Rattle.pricing.specs.Bounds.{Bounded}
-use Rattle.pricing.specs.Outcomes.{Outcome, avoided, priced as ruled}
-use Rattle.pricing.specs.Quotes.{Answer, Quoted, standing}
+use Rattle.pricing.specs.Bounds.{IsBounded as Bounded}
+use Rattle.pricing.specs.Outcomes.{Outcome, avoided, directed as ruled}
+use Rattle.pricing.specs.Quotes.{Answer, IsQuoteOfSource as Quoted, quoted_direction as standing}
 use Rattle.pricing.specs.declared.quote.Quote.{Quote}
 use Rattle.pricing.specs.declared.quote.QuoteDirection.{QuoteDirection}
 use Rattle.pricing.specs.declared.quote.QuoteDirection.TheVariants.{Up, Down, Avoided}

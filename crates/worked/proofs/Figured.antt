@@ -2,8 +2,8 @@
 use Rattle.std.proofs.Common.{arith, ◌≡◌, ℕ, Some, None, Ok, sym, refl, subst}
 use Rattle.figures.specs.Sides.{Given, ReportedTo, net_to, side_of}
 use Rattle.figures.specs.declared.quarter_figures.Figures.{Figures}
-use Rattle.pricing.specs.Outcomes.{Outcome, avoided, priced}
-use Rattle.pricing.specs.Quotes.{Quotes, standing}
+use Rattle.pricing.specs.Outcomes.{Outcome, avoided, directed}
+use Rattle.pricing.specs.Quotes.{IsQuote, quoted_direction}
 use Rattle.pricing.specs.declared.quote.Quote.{Quote}
 use Rattle.pricing.specs.declared.quote.QuoteDirection.TheVariants.{Avoided}
 use Rattle.source.specs.Meanings.{Meaning}
@@ -30,11 +30,11 @@ figured m h = record {
   given = ∣ (m, given m h) ∣₁;
 }
 
-pub directed : (m : Meaning) (h : Reports m) (code : ℕ) (ruling : Figures → Outcome) (d : Direction) (x : Exact) (p : Price) → ruling (figured m h) ≡ priced d x → p.cents ≡ rounded x.n x.d → QuotedAs m code ruling (standing d) p.cents
-directed m h code ruling d x p e r =
-    let q : Quote = record { code = code; direction = standing d; price = p } in (
+pub by_direction : (m : Meaning) (h : Reports m) (code : ℕ) (ruling : Figures → Outcome) (d : Direction) (x : Exact) (p : Price) → ruling (figured m h) ≡ directed d x → p.cents ≡ rounded x.n x.d → QuotedAs m code ruling (quoted_direction d) p.cents
+by_direction m h code ruling d x p e r =
+    let q : Quote = record { code = code; direction = quoted_direction d; price = p } in (
       q,
-      record { figures = figured m h; gives = given m h; quotes = subst (λ o. Quotes code o m.avoided (Ok q)) (sym e) (record { price = p; is = refl; at = r }) },
+      record { figures = figured m h; gives = given m h; quotes = subst (λ o. IsQuote code o m.avoided (Ok q)) (sym e) (record { price = p; is = refl; at = r }) },
       refl,
       refl,
     )

@@ -10,7 +10,7 @@ use Rattle.writing.specs.Bytes.{number_bytes}
 use Rattle.worked.specs.Cases.{WorkedByHand}
 use Rattle.worked.specs.Quarters.{balanced, cents, half_cent, manual_activated, manual_formed, three_levels}
 use Rattle.worked.specs.declared.by_hand.WorkedFigures.{WorkedFigures}
-use Rattle.worked.proofs.Figured.{by_value, directed, no_value}
+use Rattle.worked.proofs.Figured.{by_direction, by_value, no_value}
 
 -- what was worked by hand
 abbrev pub by_hand : WorkedFigures
@@ -38,16 +38,16 @@ unfolding net_to counting_to formed_to rounded half_up quantity number_bytes
 worked =
     let seven : Price = cents (pos 700) tt in
     record {
-      three_levels_1 = directed three_levels (λ k l. refl) 1 weighted_average Up (record { n = pos 3_900_000_000_000; d = 112_500_000 }) (cents (pos 34_667) tt) refl refl;
-      three_levels_2 = directed three_levels (λ k l. refl) 2 combined_automatic Up (record { n = pos 100_000; d = 1 }) (cents (pos 100_000) tt) refl refl;
-      three_levels_3 = directed three_levels (λ k l. refl) 3 combined_all Up (record { n = pos 100_000; d = 1 }) (cents (pos 100_000) tt) refl refl;
-      three_levels_4 = directed three_levels (λ k l. refl) 4 max_min Up (record { n = pos 100_000; d = 1 }) (cents (pos 100_000) tt) refl refl;
-      three_levels_5 = directed three_levels (λ k l. refl) 5 finnish Up (record { n = pos 3_900_000_000_000; d = 112_500_000 }) (cents (pos 34_667) tt) refl refl;
-      manual_activated_5 = directed manual_activated (λ k l. refl) 5 finnish Up (record { n = pos 405_000_000_000; d = 63_000_000 }) (cents (pos 6_429) tt) refl refl;
-      manual_formed_5 = directed manual_formed (λ k l. refl) 5 finnish Up (record { n = pos 10_000; d = 1 }) (cents (pos 10_000) tt) refl refl;
-      manual_formed_1 = directed manual_formed (λ k l. refl) 1 weighted_average Up (record { n = pos 225_000_000_000; d = 45_000_000 }) (cents (pos 5_000) tt) refl refl;
-      half_a_cent = directed (half_cent (cents (pos 1) tt)) (λ k l. refl) 1 weighted_average Up (record { n = pos 1; d = 2 }) (cents (pos 1) tt) refl refl;
-      half_a_cent_below = directed (half_cent (cents (negsuc 0) tt)) (λ k l. refl) 1 weighted_average Up (record { n = negsuc 0; d = 2 }) (cents (negsuc 0) tt) refl refl;
+      three_levels_1 = by_direction three_levels (λ k l. refl) 1 weighted_average Up (record { n = pos 3_900_000_000_000; d = 112_500_000 }) (cents (pos 34_667) tt) refl refl;
+      three_levels_2 = by_direction three_levels (λ k l. refl) 2 combined_automatic Up (record { n = pos 100_000; d = 1 }) (cents (pos 100_000) tt) refl refl;
+      three_levels_3 = by_direction three_levels (λ k l. refl) 3 combined_all Up (record { n = pos 100_000; d = 1 }) (cents (pos 100_000) tt) refl refl;
+      three_levels_4 = by_direction three_levels (λ k l. refl) 4 max_min Up (record { n = pos 100_000; d = 1 }) (cents (pos 100_000) tt) refl refl;
+      three_levels_5 = by_direction three_levels (λ k l. refl) 5 finnish Up (record { n = pos 3_900_000_000_000; d = 112_500_000 }) (cents (pos 34_667) tt) refl refl;
+      manual_activated_5 = by_direction manual_activated (λ k l. refl) 5 finnish Up (record { n = pos 405_000_000_000; d = 63_000_000 }) (cents (pos 6_429) tt) refl refl;
+      manual_formed_5 = by_direction manual_formed (λ k l. refl) 5 finnish Up (record { n = pos 10_000; d = 1 }) (cents (pos 10_000) tt) refl refl;
+      manual_formed_1 = by_direction manual_formed (λ k l. refl) 1 weighted_average Up (record { n = pos 225_000_000_000; d = 45_000_000 }) (cents (pos 5_000) tt) refl refl;
+      half_a_cent = by_direction (half_cent (cents (pos 1) tt)) (λ k l. refl) 1 weighted_average Up (record { n = pos 1; d = 2 }) (cents (pos 1) tt) refl refl;
+      half_a_cent_below = by_direction (half_cent (cents (negsuc 0) tt)) (λ k l. refl) 1 weighted_average Up (record { n = negsuc 0; d = 2 }) (cents (negsuc 0) tt) refl refl;
       balanced_1 = by_value (balanced (Some seven)) (λ k l. refl) 1 weighted_average seven refl refl;
       balanced_2 = by_value (balanced (Some seven)) (λ k l. refl) 2 combined_automatic seven refl refl;
       balanced_3 = by_value (balanced (Some seven)) (λ k l. refl) 3 combined_all seven refl refl;

@@ -2,7 +2,7 @@
 use Rattle.std.specs.Prelude.{◌≡◌, ℕ, List, [], ◌∷◌, ℤ, pos, negsuc, Some, None, Ok, Err}
 use Rattle.figures.specs.declared.quarter_figures.Figures.{Figures}
 use Rattle.pricing.specs.Outcomes.{Outcome}
-use Rattle.pricing.specs.Quotes.{Quoted}
+use Rattle.pricing.specs.Quotes.{IsQuoteOfSource}
 use Rattle.pricing.specs.Rulings.{combined_all, combined_automatic, finnish, max_min, weighted_average}
 use Rattle.pricing.specs.declared.fault.QuoteFault.TheVariants.{NoAvoidedValue}
 use Rattle.pricing.specs.declared.quote.Quote.{Quote}
@@ -22,11 +22,11 @@ use Rattle.worked.specs.declared.by_hand.WorkedFigures.{WorkedFigures}
 
 -- quoted under a rulebook, the source has this direction and this price in cents
 abbrev pub QuotedAs : Meaning → ℕ → (Figures → Outcome) → QuoteDirection → ℤ → Type 0
-QuotedAs m code ruling d z = (q : Quote) × Quoted m code ruling (Ok q) × (q.direction ≡ d) × (q.price.cents ≡ z)
+QuotedAs m code ruling d z = (q : Quote) × IsQuoteOfSource m code ruling (Ok q) × (q.direction ≡ d) × (q.price.cents ≡ z)
 
 -- the quote is refused for want of the avoided value
 abbrev pub NoValue : Meaning → ℕ → (Figures → Outcome) → Type 0
-NoValue m code ruling = Quoted m code ruling (Err NoAvoidedValue)
+NoValue m code ruling = IsQuoteOfSource m code ruling (Err NoAvoidedValue)
 
 -- a number read at the front of the bytes is refused with this number
 abbrev pub ReadRefused : List ℕ → ℕ → Type 0

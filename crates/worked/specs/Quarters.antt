@@ -1,7 +1,8 @@
 -- Quarters worked by hand. Slots that are not named have demand 0 and no price.
-use Rattle.std.specs.Prelude.{ℕ, cond, T, ℤ, pos, negsuc, Some, None, Option, ◌==◌, nat_le, nat_lt, unsigned_abs}
+use Rattle.std.specs.Prelude.{ℕ, if◌then◌else◌, T, ℤ, pos, negsuc, Some, None, Option, ◌==◌, nat_le, nat_lt, unsigned_abs}
 use Rattle.std.proofs.Common.{leb→le}
 use Rattle.source.specs.Meanings.{Meaning}
+use Rattle.source.specs.declared.product.TheConstants.{CYCLES, SCHEDULED, DIRECT_UP}
 use Rattle.source.specs.declared.slot.Reading.{Reading}
 use Rattle.units.specs.declared.demand.Demand.{Demand}
 use Rattle.units.specs.declared.price.Price.{Price}
@@ -17,12 +18,15 @@ demand z h = record { kw = z; bounded = leb→le (unsigned_abs z) 10_000_000 h }
 abbrev pub zone_net : (z : ℤ) → T (nat_le (unsigned_abs z) 100_000_000) → ZoneNet
 zone_net z h = record { kw = z; bounded = leb→le (unsigned_abs z) 100_000_000 h }
 
+-- demand 0 and no price
 abbrev pub idle : Reading
 idle = record { demand = demand (pos 0) tt; up = None; down = None }
 
+-- a demand and an up price
 abbrev pub upward : Demand → Price → Reading
 upward d p = record { demand = d; up = Some p; down = None }
 
+-- a demand and a down price
 abbrev pub downward : Demand → Price → Reading
 downward d p = record { demand = d; up = None; down = Some p }
 
@@ -35,11 +39,12 @@ abbrev pub three_levels : Meaning
 three_levels =
     quarter
     (λ k.
-    cond (nat_lt k 75) (upward (demand (pos 100_000) tt) (cents (pos 20_000) tt))
-    (cond (nat_lt k 150) (upward (demand (pos 100_000) tt) (cents (pos 40_000) tt))
-    (cond (nat_lt k 225) (upward (demand (pos 100_000) tt) (cents (pos 70_000) tt))
-    (cond (k == 225) (upward (demand (pos 300_000) tt) (cents (pos 10_000) tt))
-    (cond (k == 226) (upward (demand (pos 100_000) tt) (cents (pos 100_000) tt)) idle)))))
+    if nat_lt k 75 then upward (demand (pos 100_000) tt) (cents (pos 20_000) tt)
+    else if nat_lt k 150 then upward (demand (pos 100_000) tt) (cents (pos 40_000) tt)
+    else if nat_lt k CYCLES then upward (demand (pos 100_000) tt) (cents (pos 70_000) tt)
+    else if k == SCHEDULED then upward (demand (pos 300_000) tt) (cents (pos 10_000) tt)
+    else if k == DIRECT_UP then upward (demand (pos 100_000) tt) (cents (pos 100_000) tt)
+    else idle)
     (zone_net (pos 400_000) tt)
     (Some (cents (pos 5_000) tt))
 
@@ -48,8 +53,9 @@ abbrev pub manual_activated : Meaning
 manual_activated =
     quarter
     (λ k.
-    cond (nat_lt k 225) (upward (demand (pos 80_000) tt) (cents (pos 10_000) tt))
-    (cond (k == 225) (upward (demand (pos 200_000) tt) (cents (pos 5_000) tt)) idle))
+    if nat_lt k CYCLES then upward (demand (pos 80_000) tt) (cents (pos 10_000) tt)
+    else if k == SCHEDULED then upward (demand (pos 200_000) tt) (cents (pos 5_000) tt)
+    else idle)
     (zone_net (pos 200_000) tt)
     None
 
@@ -58,8 +64,9 @@ abbrev pub manual_formed : Meaning
 manual_formed =
     quarter
     (λ k.
-    cond (nat_lt k 225) (upward (demand (pos 200_000) tt) (cents (pos 5_000) tt))
-    (cond (k == 225) (upward (demand (pos 0) tt) (cents (pos 10_000) tt)) idle))
+    if nat_lt k CYCLES then upward (demand (pos 200_000) tt) (cents (pos 5_000) tt)
+    else if k == SCHEDULED then upward (demand (pos 0) tt) (cents (pos 10_000) tt)
+    else idle)
     (zone_net (pos 400_000) tt)
     None
 
@@ -67,7 +74,10 @@ manual_formed =
 abbrev pub half_cent : Price → Meaning
 half_cent p =
     quarter
-    (λ k. cond (k == 0) (upward (demand (pos 1) tt) (cents (pos 0) tt)) (cond (k == 1) (upward (demand (pos 1) tt) p) idle))
+    (λ k.
+    if k == 0 then upward (demand (pos 1) tt) (cents (pos 0) tt)
+    else if k == 1 then upward (demand (pos 1) tt) p
+    else idle)
     (zone_net (pos 0) tt)
     None
 
@@ -75,6 +85,9 @@ half_cent p =
 abbrev pub balanced : Option Price → Meaning
 balanced v =
     quarter
-    (λ k. cond (k == 0) (upward (demand (pos 1) tt) (cents (pos 1_000) tt)) (cond (k == 1) (downward (demand (negsuc 0) tt) (cents (pos 500) tt)) idle))
+    (λ k.
+    if k == 0 then upward (demand (pos 1) tt) (cents (pos 1_000) tt)
+    else if k == 1 then downward (demand (negsuc 0) tt) (cents (pos 500) tt)
+    else idle)
     (zone_net (pos 0) tt)
     v

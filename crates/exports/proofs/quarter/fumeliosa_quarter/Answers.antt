@@ -1,10 +1,27 @@
-use Rattle.std.proofs.Common.{subst, inr}
-use Rattle.sheet.specs.Sheets.{sheet_meaning}
-use Rattle.exports.specs.Quarters.{Told, ToldBy}
+use Rattle.std.proofs.Common.{Ok, Err, refl, subst, ap, ◌∙◌}
+use Rattle.pricing.specs.FiveQuotes.{AreQuotesUnlessFault}
+use Rattle.sheet.specs.Sheets.{first_fault, sheet_meaning}
+use Rattle.exports.proofs.Only.{only_plain}
+use Rattle.exports.specs.Quarters.{every_code}
 use Rattle.exports.proofs.quarter.fumeliosa_quarter.Goals as goal
 
-pub returns-in-Ok : goal.returns-in-Ok
-returns-in-Ok c =
-    subst (λ s. Told s c.plain_figures.result) c.read-sheet.ensures
-    (subst (λ r. ToldBy r (sheet_meaning c.read-sheet.result.bytes.now) c.plain_figures.result) c.in_default.ensures.first
-    (inr (record { figures = c.in-Ok.figures; gives = c.in-Ok.ensures.value; is = c.plain_figures.ensures })))
+pub returns-in-Ok-clause-answer_in_plain_numbers : goal.returns-in-Ok-clause-answer_in_plain_numbers
+returns-in-Ok-clause-answer_in_plain_numbers c =
+    let quotes = Ok c.five_quotes.result in
+    record {
+      answer = quotes;
+      quotes = subst (λ s. AreQuotesUnlessFault (first_fault s) (sheet_meaning s) quotes) c.read-sheet.ensures
+        (subst (λ r. AreQuotesUnlessFault r (sheet_meaning c.read-sheet.result.bytes.now) quotes) c.in-Ok.ensures.first c.five_quotes.ensures.quotes_of_the_source);
+      is = c.from.ensures;
+    }
+
+pub returns-in-Ok-clause-only_answer : goal.returns-in-Ok-clause-only_answer
+returns-in-Ok-clause-only_answer c = λ r h. only_plain c.args.bytes.now r _ h (returns-in-Ok-clause-answer_in_plain_numbers c)
+
+pub returns-in-Err-clause-answer_in_plain_numbers : goal.returns-in-Err-clause-answer_in_plain_numbers
+returns-in-Err-clause-answer_in_plain_numbers c = record {
+  answer = Err c.in-Err.fault;
+  quotes = subst (λ s. AreQuotesUnlessFault (first_fault s) (sheet_meaning s) (Err c.in-Err.fault)) c.read-sheet.ensures
+    (subst (λ r. AreQuotesUnlessFault r (sheet_meaning c.read-sheet.result.bytes.now) (Err c.in-Err.fault)) c.in-Err.ensures.first refl);
+  is = c.every_code.ensures ∙ ap every_code c.refused_as.ensures;
+}

@@ -15,9 +15,9 @@ returns g c =
     let f = c.in_ok-figures.figures in
     let answer = c.quote_figures.result in
     let gives = c.in_ok-figures.ensures.value in
-    let quoted = from_figures m g.R.Rulebook.CODE (g.R.Rulebook.ruling r) f answer gives c.quote_figures.ensures.value in
+    let quoted = from_figures m g.R.Rulebook.CODE (g.R.Rulebook.ruling r) f answer gives c.quote_figures.ensures.quote_of_the_ruling in
     record {
-      value = quoted;
+      quote_of_the_source = quoted;
       only_answer = λ a h. only_quote m g.R.Rulebook.CODE (g.R.Rulebook.ruling r) a answer h quoted;
       laws_kept = λ f' g'. g.met.R.Rulebook.keeps_laws r f';
       bounds_kept = from_bounds m f answer gives c.quote_figures.ensures.bounds_kept;

@@ -22,6 +22,6 @@ returns g c =
     whole (priced c.args.period m rules c.turn.result) c.args.self.now c.turn.new.self
     (record {
       lawful = g.met.R.Rulebook.keeps_laws r;
-      answered = price_answered (in_book c.args.self.now) c.args.period m rules c.turn.result c.quote_source-answer.result c.in_ok-has_period.ensures.within c.quote_source-answer.ensures.value c.turn.ensures.answers;
+      answered = price_answered (in_book c.args.self.now) c.args.period m rules c.turn.result c.quote_source-answer.result c.in_ok-has_period.ensures.within c.quote_source-answer.ensures.quote_of_the_source c.turn.ensures.answers;
       changes = c.turn.ensures.changes;
     })

@@ -1,14 +1,14 @@
--- The pricing by a reference price keeps the laws, whatever that price is.
+-- The rule of price with a reference price keeps the laws, whatever that price is.
 use Rattle.std.specs.Prelude.{◌≡◌, ℕ, Bool, true, false, cond, is_some, Some, None, Option, refl}
 use Rattle.std.proofs.Common.{sym, subst, arith}
 use Rattle.std.proofs.lemmas.Bool.{cond_both}
 use borrow.Author.Differences.{ints}
 use Rattle.figures.specs.Components.{Component, extreme, farthest, reaches, value, volume, weighted_mean}
 use Rattle.figures.specs.declared.span.Span.{Span}
-use Rattle.pricing.specs.Fits.{mean_fits}
-use Rattle.pricing.specs.Lawful.{Lawful, mean_covers, quotient_exists}
-use Rattle.pricing.specs.Laws.{Within}
-use Rattle.pricing.specs.Reach.{OnSome, Reach, Tops, beyond_same, cross, extreme_first, extreme_tops, reach_false, reach_true}
+use Rattle.pricing.specs.laws.Fits.{mean_fits}
+use Rattle.pricing.specs.laws.Lawful.{IsLawfulRule, mean_covers, quotient_exists}
+use Rattle.pricing.specs.FourLaws.{Within}
+use Rattle.pricing.specs.laws.Reach.{OnSome, Reach, Tops, beyond_same, cross, extreme_first, extreme_tops, reach_false, reach_true}
 use Rattle.quarter_tests.specs.References.{mean_or_reference, opposite, reference_price, reference_within}
 use Rattle.source.specs.declared.direction.Direction.{Direction}
 use Rattle.source.specs.declared.direction.Direction.TheVariants.{Up, Down}
@@ -63,7 +63,7 @@ tops_mean : (d : Direction) (c r : Component) (q : Exact) → mean_or_reference 
 tops_mean d None r q e = tt
 tops_mean d (Some m) r q e = (extreme_tops d (Some m) r q e).0
 
-pub reference_lawful : (p : Price) → Lawful (reference_price p)
+pub reference_lawful : (p : Price) → IsLawfulRule (reference_price p)
 reference_lawful p = record {
   exists = λ d s h k. mean_exists d (weighted_mean s) (reference_within p d s.formed) (quotient_exists (value s) (volume s) k);
   fits = λ d s h. both_fit d s.formed p (weighted_mean s) (mean_fits s h);

@@ -17,9 +17,9 @@ use Rattle.source.specs.declared.direction.Direction.{Direction}
 use Rattle.source.specs.declared.direction.Direction.TheVariants.{Up, Down}
 use Rattle.units.specs.Exact.{whole}
 use Rattle.units.specs.declared.price.Price.{Price}
-use Rattle.pricing.specs.Laws.{Within}
-use Rattle.pricing.specs.Reach.{OnSome, extreme_keeps}
-use Rattle.pricing.specs.Covers.{no_value}
+use Rattle.pricing.specs.FourLaws.{Within}
+use Rattle.pricing.specs.laws.Reach.{OnSome, extreme_keeps}
+use Rattle.pricing.specs.laws.Covers.{no_value}
 
 -- x / v lies between the least and the greatest price of f, also where v and x are 0
 abbrev pub Lies : Option Span → ℤ → ℕ → Type 0

@@ -10,14 +10,14 @@ use Rattle.source.specs.Meanings.{Meaning}
 use Rattle.source.specs.declared.direction.Direction.{Direction}
 use Rattle.source.specs.declared.direction.Direction.TheVariants.{Up, Down}
 use Rattle.units.specs.Exact.{Exact}
-use Rattle.pricing.specs.Outcomes.{Outcome, avoided, net_of, priced}
+use Rattle.pricing.specs.Outcomes.{Outcome, avoided, directed, net_of}
 use Rattle.pricing.specs.declared.ruling.Net.{Net}
 
 -- 1: above 0 the deciding net gives up or avoided, below 0 down or avoided, at 0 avoided
 abbrev pub Follows : ℤ → Outcome → Type 0
 Follows z avoided = Unit {0}
-Follows z (priced Up q) = pos 0 <ℤ z
-Follows z (priced Down q) = z <ℤ pos 0
+Follows z (directed Up q) = pos 0 <ℤ z
+Follows z (directed Down q) = z <ℤ pos 0
 
 -- 2: where any slot counts in the direction of the deciding net, of a source that gives the figures, the result is not avoided
 abbrev pub Heeds : ℤ → Figures → Outcome → Type 0
@@ -34,7 +34,7 @@ pub record Within (f : Option Span) (q : Exact) : Type 0 where
 -- 3: the price comes from the prices formed in its direction
 abbrev pub FromFormed : Figures → Outcome → Type 0
 FromFormed f avoided = Unit {0}
-FromFormed f (priced d q) = Within (side_in d f).formed q
+FromFormed f (directed d q) = Within (side_in d f).formed q
 
 -- b is as extreme as a
 abbrev pub Beyond : Direction → ℤ → ℤ → Type 0
@@ -44,7 +44,7 @@ Beyond Down a b = b ≤ℤ a
 -- 4: no less extreme than the weighted mean: S × D is at most N × V for up, at least for down
 abbrev pub BeyondMean : Figures → Outcome → Type 0
 BeyondMean f avoided = Unit {0}
-BeyondMean f (priced d q) = Beyond d (value (side_in d f) *ℤ pos q.d) (q.n *ℤ pos (volume (side_in d f)))
+BeyondMean f (directed d q) = Beyond d (value (side_in d f) *ℤ pos q.d) (q.n *ℤ pos (volume (side_in d f)))
 
 -- the four laws, of one ruling
 pub record KeepsLaws (net : Net) (f : Figures) (o : Outcome) : Type 0 where

@@ -14,8 +14,8 @@ use Rattle.source.specs.declared.direction.Direction.{Direction}
 use Rattle.source.specs.declared.direction.Direction.TheVariants.{Up, Down}
 use Rattle.units.specs.Exact.{Exact, whole}
 use Rattle.units.specs.declared.price.Price.{Price}
-use Rattle.pricing.specs.Laws.{Beyond}
-use Rattle.pricing.specs.Reach.{Tops}
+use Rattle.pricing.specs.FourLaws.{Beyond}
+use Rattle.pricing.specs.laws.Reach.{Tops}
 
 -- r is as extreme as x / v
 abbrev pub Covers : Direction → Exact → ℤ → ℕ → Type 0

@@ -1,4 +1,4 @@
--- Each pricing of the table keeps the laws, and so does each rulebook that goes by it.
+-- Each rule of price of the table keeps the laws, and so does a rulebook that goes by one.
 use Rattle.std.specs.Prelude.{◌≡◌, ℕ, zero, suc, ◌≤◌, Bool, true, false, cond, ◌||◌, T, ℤ, pos, ◌+ℤ◌, ◌*ℤ◌, ◌<ℤ◌, is_some, Some, None, Option, ◌≢◌, int_lt, nat_lt, refl}
 use Rattle.std.proofs.Common.{sym, ap, subst, ◌∙◌, arith}
 use Rattle.std.proofs.lemmas.Int.{ints}
@@ -16,21 +16,21 @@ use Rattle.source.specs.declared.direction.Direction.{Direction}
 use Rattle.source.specs.declared.direction.Direction.TheVariants.{Up, Down}
 use Rattle.units.specs.Exact.{Exact, whole}
 use Rattle.source.specs.Directions.{toward}
-use Rattle.pricing.specs.Laws.{BeyondMean, Follows, FromFormed, Heeds, KeepsLaws, Within}
+use Rattle.pricing.specs.FourLaws.{BeyondMean, Follows, FromFormed, Heeds, KeepsLaws, Within}
 use Rattle.pricing.specs.Outcomes.{avoided, decided, decided_in, net_of, outcome_at}
-use Rattle.pricing.specs.Rulings.{Pricing, automatic_or_manual, by_net, extreme_counting, finnish_price, mean_or_manual, mean_price}
+use Rattle.pricing.specs.Rulings.{PriceRule, automatic_or_manual, by_net, extreme_counting, finnish_price, mean_or_manual, mean_price}
 use Rattle.pricing.specs.declared.ruling.Net.{Net}
-use Rattle.pricing.specs.Covers.{Covers, covers_add, covers_cycles, covers_manual, covers_none, covers_quotient, no_value}
-use Rattle.pricing.specs.Fits.{automatic_fits, counting_fits, cycles_fit, formed_fits, mean_fits, over_fits}
-use Rattle.pricing.specs.Reach.{OnSome, Positive, Tops, extreme_first, extreme_keeps, extreme_second, extreme_tops, tops_parts, tops_self}
+use Rattle.pricing.specs.laws.Covers.{Covers, covers_add, covers_cycles, covers_manual, covers_none, covers_quotient, no_value}
+use Rattle.pricing.specs.laws.Fits.{automatic_fits, counting_fits, cycles_fit, formed_fits, mean_fits, over_fits}
+use Rattle.pricing.specs.laws.Reach.{OnSome, Positive, Tops, extreme_first, extreme_keeps, extreme_second, extreme_tops, tops_parts, tops_self}
 
--- a pricing exists where something counts, comes from formed prices, and is as extreme as the weighted mean
-pub record Lawful (price : Pricing) : Type 0 where
+-- the price exists where something counts, comes from formed prices, and is as extreme as the weighted mean
+pub record IsLawfulRule (price : PriceRule) : Type 0 where
   pub exists : (d : Direction) (s : Side) → Sound s → 1 ≤ volume s → is_some (price d s) ≡ true
   pub fits : (d : Direction) (s : Side) → Sound s → OnSome (Within s.formed) (price d s)
   pub covers : (d : Direction) (s : Side) (r : Exact) → Sound s → price d s ≡ Some r → Covers d r (value s) (volume s)
 
--- ---- from a pricing to its rulebook
+-- ---- from a rule of price to its rulebook
 true_lt : (x y : ℤ) → int_lt x y ≡ true → x <ℤ y
 true_lt x y e = record { lt = subst T (sym e) tt }
 
@@ -62,7 +62,7 @@ outcome_beyond : (f : Figures) (d : Direction) (o : Component) → ((r : Exact) 
 outcome_beyond f d None h = tt
 outcome_beyond f d (Some q) h = h q refl
 
-module _ (price : Pricing) (lawful : Lawful price) (z : ℤ) (f : Figures) where
+module _ (price : PriceRule) (lawful : IsLawfulRule price) (z : ℤ) (f : Figures) where
   heeds : Heeds z f (decided z (λ d. price d (side_in d f)))
   heeds m d g e c x =
       outcome_some d (price d (side_in d f)) (lawful.exists d (side_in d f) (sound_in f d) ((counts_shown m f g d).1 c))
@@ -82,7 +82,7 @@ module _ (price : Pricing) (lawful : Lawful price) (z : ℤ) (f : Figures) where
   beyond_mean : BeyondMean f (decided z (λ d. price d (side_in d f)))
   beyond_mean = beyond_in (toward z)
 
-pub rulebook_keeps : (net : Net) (price : Pricing) → Lawful price → (f : Figures) → KeepsLaws net f (by_net net price f)
+pub rulebook_keeps : (net : Net) (price : PriceRule) → IsLawfulRule price → (f : Figures) → KeepsLaws net f (by_net net price f)
 rulebook_keeps net price lawful f =
     let z = net_of net f in
     record {
@@ -92,7 +92,7 @@ rulebook_keeps net price lawful f =
       mean = beyond_mean price lawful z f;
     }
 
--- ---- what the pricings share
+-- ---- what the rules share
 pub quotient_exists : (x : ℤ) (v : ℕ) → 1 ≤ v → is_some (quotient x v) ≡ true
 quotient_exists x v h = ap is_some (cond-true (nat_lt 0 v) (Some (record { n = x; d = v })) None (lt-ltb 0 v h))
 
@@ -165,28 +165,28 @@ pub mean_covers : (d : Direction) (s : Side) (r : Exact) → Sound s → Tops d 
 mean_covers d s r h t = covers_quotient d r (value s) (volume s) (nothing_counts s h) t
 
 -- ---- the table
-pub mean_lawful : Lawful mean_price
+pub mean_lawful : IsLawfulRule mean_price
 mean_lawful = record {
   exists = λ d s h k. quotient_exists (value s) (volume s) k;
   fits = λ d s h. mean_fits s h;
   covers = λ d s r h e. mean_covers d s r h (tops_self d (weighted_mean s) r e);
 }
 
-pub automatic_lawful : Lawful automatic_or_manual
+pub automatic_lawful : IsLawfulRule automatic_or_manual
 automatic_lawful = record {
   exists = λ d s h k. beside_exists d s h (automatic_mean s) (quotient_exists s.cycles.value s.cycles.volume) k;
   fits = λ d s h. beside_fits d s h (automatic_mean s) (automatic_fits s h);
   covers = λ d s r h e. let t = extreme_tops d (automatic_mean s) (over_manual counting_price d s) r e in manual_all d s h r (automatic_covers d s h r t.0) t.1;
 }
 
-pub combined_lawful : Lawful mean_or_manual
+pub combined_lawful : IsLawfulRule mean_or_manual
 combined_lawful = record {
   exists = λ d s h k. extreme_first d (weighted_mean s) _ (quotient_exists (value s) (volume s) k);
   fits = λ d s h. beside_fits d s h (weighted_mean s) (mean_fits s h);
   covers = λ d s r h e. mean_covers d s r h (extreme_tops d (weighted_mean s) (over_manual counting_price d s) r e).0;
 }
 
-pub extreme_lawful : Lawful extreme_counting
+pub extreme_lawful : IsLawfulRule extreme_counting
 extreme_lawful = record {
   exists = λ d s h k. beside_exists d s h (cycles_extreme d s) (λ v. mapped_exists (farthest d) s.cycles.span (h.0.1 v)) k;
   fits = λ d s h. beside_fits d s h (cycles_extreme d s) (cycles_fit d s h);
@@ -211,7 +211,7 @@ cycles_alone d s r e c =
     (covers_add d r (worth s.direct_up) (worth s.direct_down) s.direct_up.volume s.direct_down.volume
     (covers_none d r _ _ (idle s.direct_up n.1) n.1) (covers_none d r _ _ (idle s.direct_down n.2) n.2)))
 
-pub finnish_lawful : Lawful finnish_price
+pub finnish_lawful : IsLawfulRule finnish_price
 finnish_lawful = record {
   exists = λ d s h k.
       cond_both (manual_counts s) (weighted_mean s) (extreme d (automatic_mean s) (over_manual formed_price d s)) (λ o. is_some o ≡ true)

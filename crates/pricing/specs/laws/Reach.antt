@@ -8,7 +8,7 @@ use Rattle.figures.specs.Components.{Component, extreme, reaches}
 use Rattle.source.specs.declared.direction.Direction.{Direction}
 use Rattle.source.specs.declared.direction.Direction.TheVariants.{Up, Down}
 use Rattle.units.specs.Exact.{Exact}
-use Rattle.pricing.specs.Laws.{Beyond}
+use Rattle.pricing.specs.FourLaws.{Beyond}
 
 abbrev pub OnSome : (Exact → Type 0) → Component → Type 0
 OnSome P None = Unit {0}
