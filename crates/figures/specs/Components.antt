@@ -3,7 +3,7 @@ use Rattle.std.specs.Prelude.{ℕ, ◌+◌, Bool, cond, ◌||◌, ℤ, pos, ◌+
 use Rattle.std.specs.Option.{option_map}
 use Rattle.source.specs.declared.direction.Direction.{Direction}
 use Rattle.source.specs.declared.direction.Direction.TheVariants.{Up, Down}
-use Rattle.units.specs.Exact.{Exact, at_most, exact_of, whole}
+use Rattle.units.specs.Exact.{Exact, at_most, exact_of, exact_of_price}
 use Rattle.units.specs.declared.ratio.Ratio.{Ratio}
 use Rattle.figures.specs.Sides.{cents_of}
 use Rattle.figures.specs.declared.quarter_figures.Figures.{Figures}
@@ -56,7 +56,7 @@ extreme d (Some a) None = Some a
 extreme d (Some a) (Some b) = cond (reaches d a b) (Some b) (Some a)
 
 abbrev pub formed_price : Manual → Component
-formed_price m = option_map whole m.price
+formed_price m = option_map exact_of_price m.price
 
 abbrev pub counting_price : Manual → Component
 counting_price m = cond (nat_lt 0 m.volume) (formed_price m) None
@@ -66,8 +66,8 @@ abbrev pub over_manual : (Manual → Component) → Direction → Side → Compo
 over_manual price d s = extreme d (price s.scheduled) (extreme d (price s.direct_up) (price s.direct_down))
 
 abbrev pub farthest : Direction → Span → Exact
-farthest Up p = whole p.highest
-farthest Down p = whole p.lowest
+farthest Up p = exact_of_price p.highest
+farthest Down p = exact_of_price p.lowest
 
 -- the extreme of the counting cycle prices
 abbrev pub cycles_extreme : Direction → Side → Component

@@ -7,7 +7,7 @@ use Rattle.pricing.specs.Rulings.{PriceRule}
 use Rattle.source.specs.Directions.{picked}
 use Rattle.source.specs.declared.direction.Direction.{Direction}
 use Rattle.source.specs.declared.direction.Direction.TheVariants.{Up, Down}
-use Rattle.units.specs.Exact.{whole}
+use Rattle.units.specs.Exact.{exact_of_price}
 use Rattle.units.specs.declared.price.Price.{Price}
 
 -- the other direction
@@ -16,7 +16,7 @@ opposite d = picked d Down Up
 
 -- the reference price, no further than the prices formed: for up the lesser of it and the highest, for down the greater of it and the lowest
 abbrev pub reference_within : Price → Direction → Option Span → Component
-reference_within p d formed = extreme (opposite d) (Some (whole p)) (option_map (farthest d) formed)
+reference_within p d formed = extreme (opposite d) (Some (exact_of_price p)) (option_map (farthest d) formed)
 
 -- where the mean exists, the extreme of it and a reference
 abbrev pub mean_or_reference : Direction → Component → Component → Component

@@ -13,7 +13,7 @@ use Rattle.pricing.specs.declared.quote.QuoteDirection.{QuoteDirection}
 use Rattle.pricing.specs.declared.quote.QuoteDirection.TheVariants.{Up, Down, Avoided}
 use Rattle.source.specs.Meanings.{Meaning}
 use Rattle.source.specs.declared.direction.Direction.TheVariants as dir
-use Rattle.units.specs.Exact.{Exact, whole}
+use Rattle.units.specs.Exact.{Exact, exact_of_price as whole}
 use Rattle.units.specs.declared.euros.Amount.{Amount}
 use Rattle.units.specs.declared.price.Price.{Price}
 use Rattle.settlement.specs.Books.{FiledAs, Fresh, Metered, Paid, imbalance_at, in_book, paid_to, quarter_at}

@@ -11,9 +11,9 @@ pub record Exact : Type 0 where
 abbrev pub exact_of : Ratio → Exact
 exact_of r = record { n = r.n; d = r.d }
 
--- a price that is a whole number of cents
-abbrev pub whole : Price → Exact
-whole p = record { n = p.cents; d = 1 }
+-- a price as an exact price
+abbrev pub exact_of_price : Price → Exact
+exact_of_price p = record { n = p.cents; d = 1 }
 
 -- the order of fractions with denominators above zero
 abbrev pub at_most : Exact → Exact → Bool

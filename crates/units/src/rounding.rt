@@ -1,6 +1,6 @@
 // Exact prices: the whole ones, their order, and the nearest cent.
 ghost use Rattle.std.specs.Prelude.{◌≡◌, ℤ, pos, ◌*ℤ◌, neg_ℤ, ◌≤ℤ◌};
-ghost use Rattle.units.specs.Exact.{exact_of, whole, at_most};
+ghost use Rattle.units.specs.Exact.{exact_of, exact_of_price, at_most};
 ghost use Rattle.units.specs.Rounding.{rounded, Nearest};
 
 use crate::fraction::Fraction;
@@ -8,7 +8,7 @@ use crate::price::Price;
 use crate::ratio::Ratio;
 
 impl From<Price> for Ratio {
-    ghost from_gives = { λ p r. exact_of r ≡ whole p };
+    ghost from_gives = { λ p r. exact_of r ≡ exact_of_price p };
 
     fn from(price: Price) -> Ratio {
         Ratio {

@@ -12,7 +12,7 @@ use Rattle.source.specs.declared.direction.Direction.TheVariants.{Up, Down}
 use Rattle.units.specs.Exact.{Exact}
 use Rattle.units.specs.Rounding.{rounded}
 use Rattle.units.specs.declared.price.Price.{Price}
-use Rattle.worked.specs.Cases.{NoValue, QuotedAs}
+use Rattle.worked.specs.Cases.{LacksAvoidedValue, IsQuotedAs}
 
 abbrev pub Reports : Meaning → Type 0
 Reports m = ReportedTo m.slots 228
@@ -30,7 +30,7 @@ figured m h = record {
   given = ∣ (m, given m h) ∣₁;
 }
 
-pub by_direction : (m : Meaning) (h : Reports m) (code : ℕ) (ruling : Figures → Outcome) (d : Direction) (x : Exact) (p : Price) → ruling (figured m h) ≡ directed d x → p.cents ≡ rounded x.n x.d → QuotedAs m code ruling (quoted_direction d) p.cents
+pub by_direction : (m : Meaning) (h : Reports m) (code : ℕ) (ruling : Figures → Outcome) (d : Direction) (x : Exact) (p : Price) → ruling (figured m h) ≡ directed d x → p.cents ≡ rounded x.n x.d → IsQuotedAs m code ruling (quoted_direction d) p.cents
 by_direction m h code ruling d x p e r =
     let q : Quote = record { code = code; direction = quoted_direction d; price = p } in (
       q,
@@ -39,7 +39,7 @@ by_direction m h code ruling d x p e r =
       refl,
     )
 
-pub by_value : (m : Meaning) (h : Reports m) (code : ℕ) (ruling : Figures → Outcome) (p : Price) → ruling (figured m h) ≡ avoided → m.avoided ≡ Some p → QuotedAs m code ruling Avoided p.cents
+pub by_value : (m : Meaning) (h : Reports m) (code : ℕ) (ruling : Figures → Outcome) (p : Price) → ruling (figured m h) ≡ avoided → m.avoided ≡ Some p → IsQuotedAs m code ruling Avoided p.cents
 by_value m h code ruling p e v =
     let q : Quote = record { code = code; direction = Avoided; price = p } in (
       q,
@@ -48,6 +48,6 @@ by_value m h code ruling p e v =
       refl,
     )
 
-pub no_value : (m : Meaning) (h : Reports m) (code : ℕ) (ruling : Figures → Outcome) → ruling (figured m h) ≡ avoided → m.avoided ≡ None → NoValue m code ruling
+pub no_value : (m : Meaning) (h : Reports m) (code : ℕ) (ruling : Figures → Outcome) → ruling (figured m h) ≡ avoided → m.avoided ≡ None → LacksAvoidedValue m code ruling
 no_value m h code ruling e v =
     record { figures = figured m h; gives = given m h; quotes = grind (arith, e) }

@@ -21,37 +21,37 @@ use Rattle.worked.specs.Runs.{PaysNext, kwh, metered_at}
 use Rattle.worked.specs.declared.by_hand.WorkedFigures.{WorkedFigures}
 
 -- quoted under a rulebook, the source has this direction and this price in cents
-abbrev pub QuotedAs : Meaning → ℕ → (Figures → Outcome) → QuoteDirection → ℤ → Type 0
-QuotedAs m code ruling d z = (q : Quote) × IsQuoteOfSource m code ruling (Ok q) × (q.direction ≡ d) × (q.price.cents ≡ z)
+abbrev pub IsQuotedAs : Meaning → ℕ → (Figures → Outcome) → QuoteDirection → ℤ → Type 0
+IsQuotedAs m code ruling d z = (q : Quote) × IsQuoteOfSource m code ruling (Ok q) × (q.direction ≡ d) × (q.price.cents ≡ z)
 
 -- the quote is refused for want of the avoided value
-abbrev pub NoValue : Meaning → ℕ → (Figures → Outcome) → Type 0
-NoValue m code ruling = IsQuoteOfSource m code ruling (Err NoAvoidedValue)
+abbrev pub LacksAvoidedValue : Meaning → ℕ → (Figures → Outcome) → Type 0
+LacksAvoidedValue m code ruling = IsQuoteOfSource m code ruling (Err NoAvoidedValue)
 
 -- a number read at the front of the bytes is refused with this number
-abbrev pub ReadRefused : List ℕ → ℕ → Type 0
-ReadRefused s n = (p : Spot) → (f : NumberFault) × (quantity zone_net_of p s 0 ≡ Err f) × (number_number f ≡ n)
+abbrev pub IsRefusedWith : List ℕ → ℕ → Type 0
+IsRefusedWith s n = (p : Spot) → (f : NumberFault) × (quantity zone_net_of p s 0 ≡ Err f) × (number_number f ≡ n)
 
 -- each figure is what the definitions give
 pub record WorkedByHand (f : WorkedFigures) : Type 0 where
-  pub three_levels_1 : QuotedAs three_levels 1 weighted_average Up f.three_levels.weighted_average
-  pub three_levels_2 : QuotedAs three_levels 2 combined_automatic Up f.three_levels.combined_automatic
-  pub three_levels_3 : QuotedAs three_levels 3 combined_all Up f.three_levels.combined_all
-  pub three_levels_4 : QuotedAs three_levels 4 max_min Up f.three_levels.max_min
-  pub three_levels_5 : QuotedAs three_levels 5 finnish Up f.three_levels.finnish
-  pub manual_activated_5 : QuotedAs manual_activated 5 finnish Up f.manual_activated_finnish
-  pub manual_formed_5 : QuotedAs manual_formed 5 finnish Up f.manual_formed_finnish
-  pub manual_formed_1 : QuotedAs manual_formed 1 weighted_average Up f.manual_formed_weighted_average
-  pub half_a_cent : QuotedAs (half_cent (cents (pos 1) tt)) 1 weighted_average Up f.half_a_cent
-  pub half_a_cent_below : QuotedAs (half_cent (cents (negsuc 0) tt)) 1 weighted_average Up f.half_a_cent_below_zero
-  pub balanced_1 : QuotedAs (balanced (Some (cents (pos 700) tt))) 1 weighted_average Avoided f.balanced
-  pub balanced_2 : QuotedAs (balanced (Some (cents (pos 700) tt))) 2 combined_automatic Avoided f.balanced
-  pub balanced_3 : QuotedAs (balanced (Some (cents (pos 700) tt))) 3 combined_all Avoided f.balanced
-  pub balanced_4 : QuotedAs (balanced (Some (cents (pos 700) tt))) 4 max_min Avoided f.balanced
-  pub no_value_1 : NoValue (balanced None) 1 weighted_average
-  pub no_value_2 : NoValue (balanced None) 2 combined_automatic
-  pub no_value_3 : NoValue (balanced None) 3 combined_all
-  pub no_value_4 : NoValue (balanced None) 4 max_min
+  pub three_levels_1 : IsQuotedAs three_levels 1 weighted_average Up f.three_levels.weighted_average
+  pub three_levels_2 : IsQuotedAs three_levels 2 combined_automatic Up f.three_levels.combined_automatic
+  pub three_levels_3 : IsQuotedAs three_levels 3 combined_all Up f.three_levels.combined_all
+  pub three_levels_4 : IsQuotedAs three_levels 4 max_min Up f.three_levels.max_min
+  pub three_levels_5 : IsQuotedAs three_levels 5 finnish Up f.three_levels.finnish
+  pub manual_activated_5 : IsQuotedAs manual_activated 5 finnish Up f.manual_activated_finnish
+  pub manual_formed_5 : IsQuotedAs manual_formed 5 finnish Up f.manual_formed_finnish
+  pub manual_formed_1 : IsQuotedAs manual_formed 1 weighted_average Up f.manual_formed_weighted_average
+  pub half_a_cent : IsQuotedAs (half_cent (cents (pos 1) tt)) 1 weighted_average Up f.half_a_cent
+  pub half_a_cent_below : IsQuotedAs (half_cent (cents (negsuc 0) tt)) 1 weighted_average Up f.half_a_cent_below_zero
+  pub balanced_1 : IsQuotedAs (balanced (Some (cents (pos 700) tt))) 1 weighted_average Avoided f.balanced
+  pub balanced_2 : IsQuotedAs (balanced (Some (cents (pos 700) tt))) 2 combined_automatic Avoided f.balanced
+  pub balanced_3 : IsQuotedAs (balanced (Some (cents (pos 700) tt))) 3 combined_all Avoided f.balanced
+  pub balanced_4 : IsQuotedAs (balanced (Some (cents (pos 700) tt))) 4 max_min Avoided f.balanced
+  pub no_value_1 : LacksAvoidedValue (balanced None) 1 weighted_average
+  pub no_value_2 : LacksAvoidedValue (balanced None) 2 combined_automatic
+  pub no_value_3 : LacksAvoidedValue (balanced None) 3 combined_all
+  pub no_value_4 : LacksAvoidedValue (balanced None) 4 max_min
   -- 1 kWh at 5.00 in period 0; then the same in period 1, once the first is settled
   pub first_half_cent : (m : Meaning) (r : Rules) → PaysNext (metered_at m r 0 (cents (pos 500) tt) (kwh (pos 1) tt) []) f.first_half_cent
   pub second_half_cent : (m : Meaning) (r : Rules) → PaysNext (metered_at m r 1 (cents (pos 500) tt) (kwh (pos 1) tt) (settled 0 (Ok (record { cents = f.first_half_cent })) ∷ metered_at m r 0 (cents (pos 500) tt) (kwh (pos 1) tt) [])) f.second_half_cent
@@ -60,4 +60,4 @@ pub record WorkedByHand (f : WorkedFigures) : Type 0 where
   pub stored_0 : number_bytes (pos 0) ≡ f.stored_0
   pub stored_minus_1 : number_bytes (negsuc 0) ≡ f.stored_minus_1
   pub stored_64 : number_bytes (pos 64) ≡ f.stored_64
-  pub not_shortest : ReadRefused (128 ∷ 0 ∷ []) f.not_shortest
+  pub not_shortest : IsRefusedWith (128 ∷ 0 ∷ []) f.not_shortest

@@ -8,13 +8,15 @@ use Rattle.units.specs.declared.demand.Demand.{Demand}
 use Rattle.units.specs.declared.price.Price.{Price}
 use Rattle.units.specs.declared.zone_net.ZoneNet.{ZoneNet}
 
--- a price in cents per MWh, a demand and a zone net in kW, each in its bounds
+-- a price in cents per MWh, in its bounds
 abbrev pub cents : (z : ℤ) → T (nat_le (unsigned_abs z) 9_999_900) → Price
 cents z h = record { cents = z; bounded = leb→le (unsigned_abs z) 9_999_900 h }
 
+-- a demand in kW, in its bounds
 abbrev pub demand : (z : ℤ) → T (nat_le (unsigned_abs z) 10_000_000) → Demand
 demand z h = record { kw = z; bounded = leb→le (unsigned_abs z) 10_000_000 h }
 
+-- a zone net in kW, in its bounds
 abbrev pub zone_net : (z : ℤ) → T (nat_le (unsigned_abs z) 100_000_000) → ZoneNet
 zone_net z h = record { kw = z; bounded = leb→le (unsigned_abs z) 100_000_000 h }
 

@@ -11,12 +11,15 @@ use Rattle.settlement.specs.declared.quarter.Quarter.TheVariants.{Priced}
 use Rattle.source.specs.Meanings.{Meaning}
 use Rattle.units.specs.declared.price.Price.{Price}
 
+-- a quarter that is priced at so much, up, under code 5
 abbrev pub at : Price → Quarter
 at p = Priced (record { code = 5; direction = Up; price = p })
 
+-- meter values without schedules and without an adjustment
 abbrev pub allocated : ℤ → Values
 allocated z = record { schedules = []; allocated = z; adjustment = pos 0 }
 
+-- an imbalance in kWh, in its bounds
 abbrev pub kwh : (z : ℤ) → T (nat_le (unsigned_abs z) 15_000_000) → Imbalance
 kwh z h = record { kwh = z; bounded = leb→le (unsigned_abs z) 15_000_000 h }
 

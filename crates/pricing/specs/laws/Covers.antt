@@ -12,7 +12,7 @@ use Rattle.figures.specs.declared.span.Span.{Span}
 use Rattle.figures.proofs.Sound.{CyclesAre, ManualSound}
 use Rattle.source.specs.declared.direction.Direction.{Direction}
 use Rattle.source.specs.declared.direction.Direction.TheVariants.{Up, Down}
-use Rattle.units.specs.Exact.{Exact, whole}
+use Rattle.units.specs.Exact.{Exact, exact_of_price}
 use Rattle.units.specs.declared.price.Price.{Price}
 use Rattle.pricing.specs.FourLaws.{Beyond}
 use Rattle.pricing.specs.laws.Reach.{Tops}
@@ -52,14 +52,14 @@ scaled Down p n D v h =
     let a = product_is (pos v) p in
     omega (arith, ints, ap (λ k. k * D) a.0, ap (λ k. k * D) a.1, mul-le-mul_right {m = up n + down p * D} {n = up p * D + down n} v (omega (arith, ints)))
 
-priced_covers : (d : Direction) (r : Exact) (v : ℕ) (o : Option Price) → is_some o ≡ true → Tops d (option_map whole o) r → Covers d r (pos v *ℤ cents_of o) v
+priced_covers : (d : Direction) (r : Exact) (v : ℕ) (o : Option Price) → is_some o ≡ true → Tops d (option_map exact_of_price o) r → Covers d r (pos v *ℤ cents_of o) v
 priced_covers d r v None e h = absurd (let z : ◌≡◌ {A = ℕ} 0 1 = cc in omega arith)
 priced_covers d r v (Some p) e h = scaled d p.cents r.n r.d v h
 
 counting_some : (m : Manual) → 1 ≤ m.volume → counting_price m ≡ formed_price m
 counting_some m h = cond-true (nat_lt 0 m.volume) _ _ (lt-ltb 0 m.volume h)
 
-manual_covers : (d : Direction) (r : Exact) (v : ℕ) (o : Option Price) → (1 ≤ v → is_some o ≡ true) → (1 ≤ v → Tops d (option_map whole o) r) → Covers d r (pos v *ℤ cents_of o) v
+manual_covers : (d : Direction) (r : Exact) (v : ℕ) (o : Option Price) → (1 ≤ v → is_some o ≡ true) → (1 ≤ v → Tops d (option_map exact_of_price o) r) → Covers d r (pos v *ℤ cents_of o) v
 manual_covers d r zero o e h = covers_none d r (pos 0 *ℤ cents_of o) 0 (omega (arith, ints)) refl
 manual_covers d r (suc v) o e h = priced_covers d r (suc v) o (e (omega arith)) (h (omega arith))
 

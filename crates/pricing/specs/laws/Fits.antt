@@ -15,7 +15,7 @@ use Rattle.figures.proofs.Counted.{by_part}
 use Rattle.figures.proofs.Sound.{Between, CyclesAre, ManualSound, Sound}
 use Rattle.source.specs.declared.direction.Direction.{Direction}
 use Rattle.source.specs.declared.direction.Direction.TheVariants.{Up, Down}
-use Rattle.units.specs.Exact.{whole}
+use Rattle.units.specs.Exact.{exact_of_price}
 use Rattle.units.specs.declared.price.Price.{Price}
 use Rattle.pricing.specs.FourLaws.{Within}
 use Rattle.pricing.specs.laws.Reach.{OnSome, extreme_keeps}
@@ -85,10 +85,10 @@ automatic_fits s h =
     quotient_fits s.formed s.cycles.value s.cycles.volume (cycles_formed s h) (omega (arith, h.0.0))
     (cycles_lies _ s.formed s.cycles.volume s.cycles.value s.cycles.span h.0)
 
-whole_fits : (f : Option Span) (p : Price) → Between f p.cents → Within f (whole p)
+whole_fits : (f : Option Span) (p : Price) → Between f p.cents → Within f (exact_of_price p)
 whole_fits f p b = record { formed = b.0; divides = omega arith; few = omega arith; low = omega (arith, ints, b.1); high = omega (arith, ints, b.2) }
 
-price_fits : (f : Option Span) (o : Option Price) → (is_some o ≡ true → Between f (cents_of o)) → OnSome (Within f) (option_map whole o)
+price_fits : (f : Option Span) (o : Option Price) → (is_some o ≡ true → Between f (cents_of o)) → OnSome (Within f) (option_map exact_of_price o)
 price_fits f None h = tt
 price_fits f (Some p) h = whole_fits f p (h refl)
 

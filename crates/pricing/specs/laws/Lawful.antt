@@ -14,7 +14,7 @@ use Rattle.figures.proofs.Facts.{sound_in}
 use Rattle.figures.proofs.Sound.{ManualSound, Sound}
 use Rattle.source.specs.declared.direction.Direction.{Direction}
 use Rattle.source.specs.declared.direction.Direction.TheVariants.{Up, Down}
-use Rattle.units.specs.Exact.{Exact, whole}
+use Rattle.units.specs.Exact.{Exact, exact_of_price}
 use Rattle.source.specs.Directions.{toward}
 use Rattle.pricing.specs.FourLaws.{BeyondMean, Follows, FromFormed, Heeds, KeepsLaws, Within}
 use Rattle.pricing.specs.Outcomes.{avoided, decided, decided_in, net_of, outcome_at}
@@ -101,7 +101,7 @@ mapped_exists g None e = e
 mapped_exists g (Some x) e = refl
 
 counting_exists : (f : Option Span) (m : Manual) → ManualSound f m → 1 ≤ m.volume → is_some (counting_price m) ≡ true
-counting_exists f m s h = ap is_some (cond-true (nat_lt 0 m.volume) (formed_price m) None (lt-ltb 0 m.volume h)) ∙ mapped_exists whole m.price (s.1 h)
+counting_exists f m s h = ap is_some (cond-true (nat_lt 0 m.volume) (formed_price m) None (lt-ltb 0 m.volume h)) ∙ mapped_exists exact_of_price m.price (s.1 h)
 
 positive : (f : Option Span) (o : Component) → OnSome (Within f) o → Positive o
 positive f None h = tt

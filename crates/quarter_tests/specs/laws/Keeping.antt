@@ -12,11 +12,11 @@ use Rattle.pricing.specs.laws.Reach.{OnSome, Reach, Tops, beyond_same, cross, ex
 use Rattle.quarter_tests.specs.References.{mean_or_reference, opposite, reference_price, reference_within}
 use Rattle.source.specs.declared.direction.Direction.{Direction}
 use Rattle.source.specs.declared.direction.Direction.TheVariants.{Up, Down}
-use Rattle.units.specs.Exact.{Exact, whole}
+use Rattle.units.specs.Exact.{Exact, exact_of_price}
 use Rattle.units.specs.declared.price.Price.{Price}
 
 -- a price that is as extreme as one between the lowest and the highest, and no more extreme than all, lies between them too
-price_within : (d : Direction) (s : Span) (m : Exact) (q : Price) → Within (Some s) m → Reach d m (whole q) → Reach d (whole q) (farthest d s) → Within (Some s) (whole q)
+price_within : (d : Direction) (s : Span) (m : Exact) (q : Price) → Within (Some s) m → Reach d m (exact_of_price q) → Reach d (exact_of_price q) (farthest d s) → Within (Some s) (exact_of_price q)
 price_within Up s m q w h g = record {
   formed = refl;
   divides = omega arith;
@@ -37,8 +37,8 @@ turned Up a b h = h
 turned Down a b h = h
 
 -- the reference is some price, and no more extreme than all formed
-chosen : (d : Direction) (s : Span) (p : Price) (t : Bool) → (t ≡ false → Reach d (whole p) (farthest d s))
-    → (q : Price) × (cond t (Some (farthest d s)) (Some (whole p)) ≡ Some (whole q)) × Reach d (whole q) (farthest d s)
+chosen : (d : Direction) (s : Span) (p : Price) (t : Bool) → (t ≡ false → Reach d (exact_of_price p) (farthest d s))
+    → (q : Price) × (cond t (Some (farthest d s)) (Some (exact_of_price p)) ≡ Some (exact_of_price q)) × Reach d (exact_of_price q) (farthest d s)
 chosen Up s p true h = (s.highest, refl, beyond_same Up _)
 chosen Down s p true h = (s.lowest, refl, beyond_same Down _)
 chosen d s p false h = (p, refl, h refl)
@@ -46,10 +46,10 @@ chosen d s p false h = (p, refl, h refl)
 reference_fits : (d : Direction) (f : Option Span) (m : Exact) (p : Price) → Within f m → OnSome (Within f) (extreme d (Some m) (reference_within p d f))
 reference_fits d None m p w = absurd (let z : ◌≡◌ {A = ℕ} 0 1 = cc in omega arith)
 reference_fits d (Some s) m p w =
-    let t = reaches (opposite d) (whole p) (farthest d s) in
-    let c = chosen d s p t (λ e. turned d (farthest d s) (whole p) (reach_false (opposite d) (whole p) (farthest d s) e)) in
+    let t = reaches (opposite d) (exact_of_price p) (farthest d s) in
+    let c = chosen d s p t (λ e. turned d (farthest d s) (exact_of_price p) (reach_false (opposite d) (exact_of_price p) (farthest d s) e)) in
     subst (λ o. OnSome (Within (Some s)) (extreme d (Some m) o)) (sym c.1)
-    (cond_both (reaches d m (whole c.0)) (Some (whole c.0)) (Some m) (OnSome (Within (Some s))) (λ e. price_within d s m c.0 w (reach_true d m (whole c.0) e) c.2) (λ e. w))
+    (cond_both (reaches d m (exact_of_price c.0)) (Some (exact_of_price c.0)) (Some m) (OnSome (Within (Some s))) (λ e. price_within d s m c.0 w (reach_true d m (exact_of_price c.0) e) c.2) (λ e. w))
 
 mean_exists : (d : Direction) (c r : Component) → is_some c ≡ true → is_some (mean_or_reference d c r) ≡ true
 mean_exists d None r e = e
