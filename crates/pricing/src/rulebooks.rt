@@ -4,7 +4,7 @@ ghost use Rattle.pricing.specs.Rulings.{combined_all, combined_automatic, finnis
 ghost use Rattle.pricing.specs.laws.Lawful.{rulebook_keeps, mean_lawful, automatic_lawful, combined_lawful, extreme_lawful, finnish_lawful};
 
 use crate::rulebook::Rulebook;
-use crate::ruling::{Net, DirectedPrice, Ruling};
+use crate::ruling::{DirectedPrice, Net, Ruling};
 use figures::components::extreme_of;
 use figures::quarter_figures::Figures;
 use source::direction::Direction;

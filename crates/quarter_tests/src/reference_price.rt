@@ -11,7 +11,7 @@ use figures::components::extreme_of;
 use figures::quarter_figures::Figures;
 use figures::span::Span;
 use pricing::rulebook::Rulebook;
-use pricing::ruling::{Net, DirectedPrice, Ruling};
+use pricing::ruling::{DirectedPrice, Net, Ruling};
 use source::direction::Direction;
 use units::price::Price;
 use units::ratio::Ratio;

@@ -11,7 +11,7 @@ returns-in-Ok-clause-answer_in_plain_numbers c =
     record {
       answer = quotes;
       quotes = subst (λ s. AreQuotesUnlessFault (first_fault s) (sheet_meaning s) quotes) c.read-sheet.ensures
-        (subst (λ r. AreQuotesUnlessFault r (sheet_meaning c.read-sheet.result.bytes.now) quotes) c.in-Ok.ensures.first c.five_quotes.ensures.quotes_of_the_source);
+          (subst (λ r. AreQuotesUnlessFault r (sheet_meaning c.read-sheet.result.bytes.now) quotes) c.in-Ok.ensures.first c.five_quotes.ensures.quotes_of_the_source);
       is = c.from.ensures;
     }
 
@@ -22,6 +22,6 @@ pub returns-in-Err-clause-answer_in_plain_numbers : goal.returns-in-Err-clause-a
 returns-in-Err-clause-answer_in_plain_numbers c = record {
   answer = Err c.in-Err.fault;
   quotes = subst (λ s. AreQuotesUnlessFault (first_fault s) (sheet_meaning s) (Err c.in-Err.fault)) c.read-sheet.ensures
-    (subst (λ r. AreQuotesUnlessFault r (sheet_meaning c.read-sheet.result.bytes.now) (Err c.in-Err.fault)) c.in-Err.ensures.first refl);
+      (subst (λ r. AreQuotesUnlessFault r (sheet_meaning c.read-sheet.result.bytes.now) (Err c.in-Err.fault)) c.in-Err.ensures.first refl);
   is = c.every_code.ensures ∙ ap every_code c.refused_as.ensures;
 }
