@@ -1,5 +1,5 @@
 -- The quotes of a sheet in plain numbers.
-use Rattle.std.specs.Prelude.{◌≡◌, ℕ, List, ℤ, pos, Ok, Err, Result}
+use Rattle.std.specs.Prelude.{◌≡◌, ℕ, List, pos, Ok, Err, Result}
 use Rattle.pricing.specs.FiveQuotes.{AreQuotesUnlessFault}
 use Rattle.pricing.specs.Refusals.{quote_number, quote_place}
 use Rattle.pricing.specs.declared.fault.QuoteFault.{QuoteFault}
