@@ -1,7 +1,7 @@
 -- The text of what is answered of a sheet.
-use Rattle.std.specs.Prelude.{ℕ, List, [], ◌∷◌, ◌++◌, Ok, Err, decimal, Result}
+use Rattle.std.specs.Prelude.{ℕ, List, [], ◌∷◌, ◌++◌, Ok, Err, Result}
 use Rattle.pricing.specs.declared.five_quotes.FiveQuotes.{FiveQuotes}
-use Rattle.sheet.specs.Faults.{fault_number, fault_place}
+use Rattle.sheet.specs.Faults.{fault_text}
 use Rattle.sheet.specs.declared.fault.SheetFault.{SheetFault}
 use Rattle.lines.specs.Texts.{answer_text}
 use Rattle.lines.specs.declared.quarter_lines.QuarterLines.{QuarterLines}
@@ -12,14 +12,14 @@ five_text q =
     answer_text 1 q.weighted_average ++ (answer_text 2 q.combined_automatic ++ (answer_text 3 q.combined_all ++
     (answer_text 4 q.max_min ++ answer_text 5 q.finnish)))
 
--- !, number, place
-abbrev pub fault_text : SheetFault → List ℕ
-fault_text f = 0x21 ∷ 0x20 ∷ (decimal (fault_number f) ++ (0x20 ∷ (decimal (fault_place f) ++ (0x0A ∷ []))))
+-- the line of a sheet's fault
+abbrev pub fault_line : SheetFault → List ℕ
+fault_line f = fault_text f ++ (0x0A ∷ [])
 
 -- the lines of the codes, or that of the sheet's fault
 abbrev pub printed : Result FiveQuotes SheetFault → List ℕ
 printed (Ok q) = five_text q
-printed (Err f) = fault_text f
+printed (Err f) = fault_line f
 
 -- what an answer prints
 abbrev pub lines_text : QuarterLines → List ℕ

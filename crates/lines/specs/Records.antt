@@ -3,7 +3,7 @@ use Rattle.std.specs.Prelude.{ℕ, ◌+◌, ◌/◌, ◌%◌, List, [], ◌∷�
 use Rattle.std.specs.Char.{digit_char}
 use Rattle.sheet.specs.Readers.{Handed, View, reading}
 use Rattle.sheet.specs.declared.fault.SheetFault.{SheetFault}
-use Rattle.lines.specs.Quarters.{fault_text}
+use Rattle.lines.specs.Quarters.{fault_line}
 
 -- the two hexadecimal digits of a byte
 abbrev pub hex_text : ℕ → List ℕ
@@ -21,7 +21,7 @@ record_text slot r = decimal slot ++ (0x20 ∷ (decimal r.place ++ (0x20 ∷ (de
 -- a record's line, or a fault's
 abbrev pub handed_text : ℕ → Handed → List ℕ
 handed_text slot (Ok r) = record_text slot r
-handed_text slot (Err f) = fault_text f
+handed_text slot (Err f) = fault_line f
 
 -- the lines of what is handed out from a slot on
 abbrev pub all_text : ℕ → List Handed → List ℕ
@@ -31,7 +31,7 @@ all_text slot (x ∷ xs) = handed_text slot x ++ all_text (slot + 1) xs
 -- the lines of a reading, or of the fault of the head
 abbrev pub reading_text : Result (List Handed) SheetFault → List ℕ
 reading_text (Ok xs) = all_text 0 xs
-reading_text (Err f) = fault_text f
+reading_text (Err f) = fault_line f
 
 -- the lines of the records of the sheet s, and that of its first fault, if it has one
 abbrev pub records_text : List ℕ → List ℕ

@@ -11,7 +11,6 @@ use pricing::rulebooks::{CombinedAll, CombinedAutomatic, Finnish, MaxMin, Weight
 use sheet::fault::SheetFault;
 use sheet::sheet::Sheet;
 use std::fmt;
-use units::refusal::Refusal;
 
 /// The lines of codes 1 to 5.
 #[derive(Clone, Copy)]
@@ -52,11 +51,7 @@ impl fmt::Display for QuarterLines {
     fn fmt<W: fmt::Write>(&self, f: &mut fmt::Formatter<W>) -> fmt::Result {
         match self.answer {
             Ok(quotes) => write!(f, "{}", FiveLines { quotes }),
-            Err(fault) => {
-                let number = fault.number();
-                let place = fault.place();
-                write!(f, "! {number} {place}\n")
-            }
+            Err(fault) => write!(f, "{fault}\n"),
         }
     }
 }

@@ -3,7 +3,6 @@ ghost use Rattle.std.specs.Prelude.{Some};
 ghost use Rattle.lines.specs.Records.{body_text, handed_text, hex_text, records_text};
 ghost use Rattle.sheet.specs.Readers.{shown};
 
-use crate::quarter_lines::QuarterLines;
 use sheet::fault::SheetFault;
 use sheet::reader::Reader;
 use sheet::slot_record::Record;
@@ -62,7 +61,7 @@ impl fmt::Display for RecordLine<'_> {
                 let body = Body(record.body());
                 write!(f, "{slot} {place} {lead} {body}\n")
             }
-            Err(fault) => write!(f, "{}", QuarterLines { answer: Err(fault) }),
+            Err(fault) => write!(f, "{fault}\n"),
         }
     }
 }
@@ -79,7 +78,7 @@ impl fmt::Display for RecordLines<'_> {
     fn fmt<W: fmt::Write>(&self, f: &mut fmt::Formatter<W>) -> fmt::Result {
         let records = match Reader::of(self.sheet) {
             Ok(records) => records,
-            Err(fault) => return write!(f, "{}", QuarterLines { answer: Err(fault) }),
+            Err(fault) => return write!(f, "{fault}\n"),
         };
         let mut slot = 0;
         for handed in records {

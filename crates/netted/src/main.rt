@@ -1,7 +1,6 @@
 // Lays the netting fill over a sheet from standard input, and writes the filled sheet to standard output.
 #![tactic(auto)]
 
-use lines::quarter_lines::QuarterLines;
 use sheet::sheet::Sheet;
 use source::netting_fill::NettingFill;
 use std::io;
@@ -14,7 +13,7 @@ fn main(rt: HostRuntime) -> io::Result<ExitCode> {
     rt.stdin().read_to_end(&mut bytes)?;
     let sheet = Sheet::read(bytes.as_slice());
     if let Err(fault) = sheet.check() {
-        rt.eprint(QuarterLines { answer: Err(fault) })?;
+        eprintln!(rt; "{fault}")?;
         return Ok(ExitCode::FAILURE);
     }
     let filled = sheet_vec(rt.alloc(), &NettingFill { below: sheet })?;

@@ -1,5 +1,5 @@
--- The number, the place and the slot of a fault.
-use Rattle.std.specs.Prelude.{ℕ}
+-- The number, the place and the slot of a fault, and its text.
+use Rattle.std.specs.Prelude.{ℕ, List, ◌∷◌, ◌++◌, decimal}
 use Rattle.sheet.specs.declared.fault.NumberFault.{NumberFault}
 use Rattle.sheet.specs.declared.fault.NumberFault.TheVariants as nf
 use Rattle.sheet.specs.declared.fault.RecordFault.{RecordFault}
@@ -61,3 +61,7 @@ fault_slot (sf.Flag at) = 228
 fault_slot (sf.Head f) = (number_spot f).slot
 fault_slot (sf.Slot f) = (record_spot f).slot
 fault_slot (sf.After at) = 228
+
+-- !, number, place
+abbrev pub fault_text : SheetFault → List ℕ
+fault_text f = 0x21 ∷ 0x20 ∷ (decimal (fault_number f) ++ (0x20 ∷ decimal (fault_place f)))

@@ -1,10 +1,11 @@
 // The faults of a sheet: one in a number stands whole in its record's, and that in the sheet's.
-ghost use Rattle.std.specs.Prelude.{◌≡◌};
-ghost use Rattle.sheet.specs.Faults.{number_spot, number_number, number_place, record_spot, record_number, record_place, fault_number, fault_place, fault_slot};
+ghost use Rattle.std.specs.Prelude.{◌≡◌, Some};
+ghost use Rattle.sheet.specs.Faults.{number_spot, number_number, number_place, record_spot, record_number, record_place, fault_number, fault_place, fault_slot, fault_text};
 ghost use Rattle.sheet.specs.declared.fault.RecordFault.TheVariants.{Number};
 ghost use Rattle.sheet.specs.declared.fault.SheetFault.TheVariants.{Head, Slot};
 
 use source::slot::SLOTS;
+use std::fmt;
 use units::refusal::Refusal;
 
 /// The slot number that is given for a byte of the head, and after the last slot.
@@ -167,5 +168,16 @@ impl SheetFault {
             SheetFault::Slot(fault) => fault.spot().slot,
             _ => HEAD,
         }
+    }
+}
+
+/// `! number place`, without the end of a line.
+impl fmt::Display for SheetFault {
+    ghost output = { λ x. Some (fault_text x) };
+
+    fn fmt<W: fmt::Write>(&self, f: &mut fmt::Formatter<W>) -> fmt::Result {
+        let number = self.number();
+        let place = self.place();
+        write!(f, "! {number} {place}")
     }
 }

@@ -1,4 +1,5 @@
 pub mod Bounds
+pub mod Chains
 pub mod Exact
 pub mod Quantities
 pub mod Rounding

@@ -1,7 +1,6 @@
 // Reads a packed sheet from standard input, and prints its quarter as plain text.
 #![tactic(auto)]
 
-use lines::quarter_lines::QuarterLines;
 use quarter_text::printing::quarter_text;
 use sheet::sheet::Sheet;
 use std::io;
@@ -14,7 +13,7 @@ fn main(rt: HostRuntime) -> io::Result<ExitCode> {
     rt.stdin().read_to_end(&mut bytes)?;
     let sheet = Sheet::read(bytes.as_slice());
     if let Err(fault) = sheet.check() {
-        rt.eprint(QuarterLines { answer: Err(fault) })?;
+        eprintln!(rt; "{fault}")?;
         return Ok(ExitCode::FAILURE);
     }
     let text = quarter_text(heap, &sheet)?;
