@@ -1,17 +1,19 @@
 -- The first fault of a sheet: its place, and the slots from it on.
-use Rattle.std.proofs.Common.{◌≡◌, ℕ, zero, suc, ◌+◌, ◌<◌, ◌≤◌, List, [], ◌∷◌, length, get_or, replicate, Ok, Err, Result, arith, length-drop, None}
+use Rattle.std.proofs.Common.{◌≡◌, ℕ, zero, suc, ◌+◌, ◌<◌, ◌≤◌, List, [], ◌∷◌, length, get_or, replicate, Ok, Err, Option, Result, arith, length-drop, None}
 use lib.ListN.{length-replicate}
 use Rattle.std.proofs.lemmas.List.{get_or-replicate, get_or_past}
 use Rattle.std.proofs.lemmas.Bool.Decides.{nat_tests}
 use Rattle.source.specs.Slots.{Slot}
+use Rattle.units.specs.declared.price.Price.{Price}
 use Rattle.sheet.specs.declared.fault.RecordFault.{RecordFault}
 use Rattle.sheet.specs.declared.fault.SheetFault.{SheetFault}
+use Rattle.sheet.specs.declared.head.Head.{Head}
 use Rattle.sheet.specs.Faults.{record_number, record_spot, fault_number, fault_place, fault_slot}
-use Rattle.sheet.specs.Heads.{head_of, opens, opening, Avoided, avoided_at, Headed}
+use Rattle.sheet.specs.Heads.{head_of, opens, opening, avoided_at}
 use Rattle.sheet.specs.Laws.{Placed, Silent}
 use Rattle.sheet.specs.Rows.{row, Row}
-use Rattle.sheet.specs.Sheets.{slots_from, slots_after, fault_after, sheet_slots, first_fault}
-use Rattle.sheet.proofs.Places.{Lies, quantity_fits, told_fits}
+use Rattle.sheet.specs.Sheets.{slots_from, sheet_slots, first_fault}
+use Rattle.sheet.proofs.Places.{Lies, fault_after, quantity_fits, slots_after, told_fits}
 
 none_told : (n k : ℕ) → ◌≡◌ {A = Slot} (get_or (replicate n None) k None) None
 none_told n k = grind (arith, nat_tests, get_or-replicate, get_or_past, length-replicate {A = Slot})
@@ -50,7 +52,7 @@ opens_put at [] s = omega arith
 opens_put at (w ∷ want) [] = grind arith
 opens_put at (w ∷ want) (b ∷ s) = grind (arith, nat_tests, opens_put (at + 1) want s)
 
-abbrev GoodAvoided : List ℕ → Avoided → Type 0
+abbrev GoodAvoided : List ℕ → Result (Option Price × ℕ) SheetFault → Type 0
 GoodAvoided s (Ok g) = g.1 ≤ length s
 GoodAvoided s (Err f) = Put (length s) f
 
@@ -58,7 +60,7 @@ avoided_good : (s : List ℕ) (at : ℕ) → GoodAvoided s (avoided_at s at)
 unfolding avoided_at
 avoided_good s at = grind (arith, nat_tests, quantity_fits)
 
-abbrev GoodHead : List ℕ → Headed → Type 0
+abbrev GoodHead : List ℕ → Result Head SheetFault → Type 0
 GoodHead s (Ok h) = h.end ≤ length s
 GoodHead s (Err f) = Put (length s) f
 
@@ -70,9 +72,9 @@ pub placed : (s : List ℕ) (f : SheetFault) → first_fault s ≡ Err f → Pla
 unfolding first_fault slots_from
 placed s f e = grind (arith, nat_tests, head_good s, row_runs 228 s 0)
 
-silent_after : (s : List ℕ) (x : Headed) → GoodHead s x → (f : SheetFault) → fault_after s x ≡ Err f
+silent_after : (s : List ℕ) (x : Result Head SheetFault) → GoodHead s x → (f : SheetFault) → fault_after s x ≡ Err f
     → (k : ℕ) → fault_slot f ≤ k → get_or (slots_after s x) k None ≡ None
-unfolding slots_from slots_after
+unfolding slots_from
 silent_after s (Ok h) g f e k l = grind (arith, nat_tests, row_runs 228 s 0 h.end g, get_or_past)
 silent_after s (Err f) g z e k l = none_told 228 k
 

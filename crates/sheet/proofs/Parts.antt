@@ -12,11 +12,11 @@ use Rattle.sheet.specs.declared.head.Head.{Head}
 use Rattle.sheet.specs.Faults.{record_spot}
 use Rattle.sheet.specs.Heads.{head_of}
 use Rattle.sheet.specs.Laws.{ByRecords, all_bytes, slots_read}
-use Rattle.sheet.specs.Readers.{Handed, View, fault_alone, handed, in_sheet, record_bytes, then_after, view_of, viewed}
+use Rattle.sheet.specs.Readers.{Handed, View, fault_alone, handed, in_sheet, record_bytes, record_and_rest, view_of, viewed}
 use Rattle.sheet.specs.Records.{slot_told, Told}
-use Rattle.sheet.specs.Rows.{row, Row, spot_at, step}
-use Rattle.sheet.specs.Sheets.{closed, closes, fault_after, first_fault, sheet_slots, slots_after, slots_from}
-use Rattle.sheet.proofs.Places.{FitsTold, told_fits}
+use Rattle.sheet.specs.Rows.{row, Row, slot_and_rest, spot_at}
+use Rattle.sheet.specs.Sheets.{closed, closes, first_fault, sheet_slots, slots_from}
+use Rattle.sheet.proofs.Places.{FitsTold, fault_after, slots_after, told_fits}
 use Rattle.sheet.proofs.Telling.{all_told, bytes_long, records, told}
 
 -- a record is the n bytes at the front
@@ -59,7 +59,7 @@ parts_after k s i at n r v xs w len is rest = record {
 
 parts_more : (k : ℕ) (s : List ℕ) (i at : ℕ) (t : Told) → at ≤ length s → FitsTold (spot_at at i) (length (drop at s)) t
     → ((n : ℕ) → at + n ≤ length s → Parts k s (i + 1) (at + n) (handed k s (i + 1) (at + n)) (row k s (i + 1) (at + n)))
-    → Parts (suc k) s i at (then_after (in_sheet (viewed (spot_at at i) (drop at s) t)) (λ n. handed k s (i + 1) (at + n))) (step k t (λ n. row k s (i + 1) (at + n)))
+    → Parts (suc k) s i at (record_and_rest (in_sheet (viewed (spot_at at i) (drop at s) t)) (λ n. handed k s (i + 1) (at + n))) (slot_and_rest k t (λ n. row k s (i + 1) (at + n)))
 parts_more k s i at (Ok (v, n)) h f more =
     let r : View = view_of (spot_at at i) (drop at s) v n in
     let len : length (record_bytes r) ≡ n = bytes_long (spot_at at i) (drop at s) v n f.0 f.1 in
@@ -104,7 +104,7 @@ StandsAt s i at xs = (j : ℕ) (r : View) → slice_get (records xs) j ≡ Some 
 
 stands_more : (k : ℕ) (s : List ℕ) (i at : ℕ) (t : Told) → slot_told (spot_at at i) (drop at s) ≡ t → at ≤ length s → FitsTold (spot_at at i) (length (drop at s)) t
     → ((n : ℕ) → at + n ≤ length s → StandsAt s (i + 1) (at + n) (handed k s (i + 1) (at + n)))
-    → StandsAt s i at (then_after (in_sheet (viewed (spot_at at i) (drop at s) t)) (λ n. handed k s (i + 1) (at + n)))
+    → StandsAt s i at (record_and_rest (in_sheet (viewed (spot_at at i) (drop at s) t)) (λ n. handed k s (i + 1) (at + n)))
 stands_more k s i at (Ok (v, n)) e h f more zero r o =
     stands_first s i at n (view_of (spot_at at i) (drop at s) v n) r refl e (bytes_long (spot_at at i) (drop at s) v n f.0 f.1) o
 stands_more k s i at (Ok (v, n)) e h f more (suc j) r o =
@@ -144,7 +144,7 @@ unfolding first_fault slots_from
 fault_is s h e = ap (fault_after s) e
 
 slots_are : (s : List ℕ) (h : Head) → head_of s ≡ Ok h → sheet_slots s ≡ (row 228 s 0 h.end).0
-unfolding sheet_slots slots_after slots_from
+unfolding sheet_slots slots_from
 slots_are s h e = ap (slots_after s) e
 
 -- what is handed out of a sheet is the sheet by its records

@@ -1,15 +1,23 @@
 -- Where a fault stands: at the sheet's end, or at a byte before it, and in which slot.
-use Rattle.std.proofs.Common.{◌≡◌, ℕ, ◌+◌, ◌<◌, ◌≤◌, List, [], ◌∷◌, length, drop, ℤ, Ok, Err, Result, arith, length-drop}
+use Rattle.std.proofs.Common.{◌≡◌, ℕ, ◌+◌, ◌<◌, ◌≤◌, List, [], ◌∷◌, length, drop, replicate, ℤ, None, Ok, Err, Result, arith, length-drop}
 use Rattle.std.proofs.lemmas.Bool.Decides.{nat_tests}
+use Rattle.units.specs.Chains.{result_and_then, result_map_err}
 use Rattle.units.specs.declared.bounds.OutOfBounds.{OutOfBounds}
 use Rattle.units.specs.declared.demand.Demand.{Demand}
 use Rattle.units.specs.declared.price.Price.{Price}
 use Rattle.sheet.specs.declared.fault.NumberFault.{NumberFault}
+use Rattle.sheet.specs.declared.fault.NumberFault.TheVariants as nf
+use Rattle.sheet.specs.declared.fault.SheetFault.{SheetFault}
+use Rattle.sheet.specs.declared.head.Head.{Head}
 use Rattle.sheet.specs.declared.fault.Spot.{Spot}
 use Rattle.sheet.specs.declared.number.GroupsFault.TheVariants as gf
 use Rattle.sheet.specs.Faults.{number_number, number_spot, record_number, record_spot}
-use Rattle.sheet.specs.Groups.{Groups, groups}
-use Rattle.sheet.specs.Numbers.{Number, quantity, judged}
+use Rattle.sheet.specs.Groups.{Groups, groups, unfolded}
+use Rattle.sheet.specs.Numbers.{Number, ahead, groups_fault, quantity}
+use Rattle.std.specs.Option.{option_map_or}
+use Rattle.std.specs.Result.{result_ok}
+use Rattle.source.specs.Slots.{Slot}
+use Rattle.sheet.specs.Sheets.{closed, slots_from}
 use Rattle.sheet.specs.Records.{pair, Told, slot_told, by_lead}
 
 -- groups take at least one byte, and no more than there are
@@ -39,6 +47,16 @@ Fits end p s (Err f) = Lies p.slot (p.place + length s) (number_number f) (numbe
 abbrev pub FitsNumber : {Q : Type 0} → Spot → List ℕ → Number Q → Type 0
 FitsNumber p s x = Fits (λ g. g.1) p s x
 
+-- a quantity that ends at the byte end, unless the number at p is out of bounds
+abbrev pub bounded : {Q : Type 0} → Spot → ℕ → Result Q OutOfBounds → Number Q
+bounded p end x = result_and_then (result_map_err x (λ e. nf.Bounds p)) (λ q. Ok (q, end))
+
+-- the number of the groups g that begin at the byte from
+abbrev pub judged : {Q : Type 0} → (ℤ → Result Q OutOfBounds) → Spot → List ℕ → ℕ → Groups → Number Q
+judged made p s from g =
+    result_and_then (result_map_err g (groups_fault p s from))
+    (λ h. bounded (ahead p from) (from + h.1) (made (unfolded h.0)))
+
 judged_fits : {Q : Type 0} (made : ℤ → Result Q OutOfBounds) (p : Spot) (s : List ℕ) (from : ℕ) (g : Groups) → from ≤ length s → Long (drop from s) g → FitsNumber p s (judged made p s from g)
 judged_fits made p s from g h l = grind (arith, nat_tests, length-drop {A = ℕ})
 
@@ -59,3 +77,10 @@ pub told_fits : (p : Spot) (s : List ℕ) → FitsTold p (length s) (slot_told p
 unfolding by_lead
 told_fits p [] = grind (arith, nat_tests)
 told_fits p (lead ∷ s) = grind (arith, nat_tests, quantity_fits, pair_fits)
+
+-- what is told of each slot, and the first fault, after a head or its fault
+abbrev pub slots_after : List ℕ → Result Head SheetFault → List Slot
+slots_after s x = option_map_or (λ h. (slots_from s h.end).0) (result_ok x) (replicate 228 None)
+
+abbrev pub fault_after : List ℕ → Result Head SheetFault → Result (Unit {0}) SheetFault
+fault_after s x = result_and_then x (λ h. closed s (slots_from s h.end).1)

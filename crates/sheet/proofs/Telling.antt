@@ -7,9 +7,9 @@ use Rattle.std.proofs.lemmas.List.Edits.{length-between}
 use Rattle.source.specs.Slots.{Slot}
 use Rattle.sheet.specs.declared.fault.SheetFault.{SheetFault}
 use Rattle.sheet.specs.declared.fault.Spot.{Spot}
-use Rattle.sheet.specs.Readers.{Handed, View, handed, in_sheet, record_bytes, then_after, view_of, viewed}
+use Rattle.sheet.specs.Readers.{Handed, View, handed, in_sheet, record_bytes, record_and_rest, view_of, viewed}
 use Rattle.sheet.specs.Records.{slot_told, Told}
-use Rattle.sheet.specs.Rows.{row, Row, spot_at, step}
+use Rattle.sheet.specs.Rows.{row, Row, slot_and_rest, spot_at}
 use Rattle.sheet.specs.Sheets.{closed, slots_from}
 use Rattle.sheet.proofs.Places.{FitsTold, told_fits}
 
@@ -41,7 +41,7 @@ pub record Tells (k : ℕ) (s : List ℕ) (xs : List Handed) (r : Row) : Type 0 
 
 tells_more : (k : ℕ) (s : List ℕ) (i at : ℕ) (t : Told) → at ≤ length s → FitsTold (spot_at at i) (length (drop at s)) t
     → ((n : ℕ) → at + n ≤ length s → Tells k s (handed k s (i + 1) (at + n)) (row k s (i + 1) (at + n)))
-    → Tells (suc k) s (then_after (in_sheet (viewed (spot_at at i) (drop at s) t)) (λ n. handed k s (i + 1) (at + n))) (step k t (λ n. row k s (i + 1) (at + n)))
+    → Tells (suc k) s (record_and_rest (in_sheet (viewed (spot_at at i) (drop at s) t)) (λ n. handed k s (i + 1) (at + n))) (slot_and_rest k t (λ n. row k s (i + 1) (at + n)))
 tells_more k s i at (Ok (v, n)) h f more =
     let e : length (record_bytes (view_of (spot_at at i) (drop at s) v n)) ≡ n = bytes_long (spot_at at i) (drop at s) v n f.0 f.1 in
     let rest : Tells k s (handed k s (i + 1) (at + n)) (row k s (i + 1) (at + n)) = more n (omega (arith, length-drop at s)) in

@@ -1,7 +1,7 @@
 -- The head of a sheet: its opening, the zone net, and the avoided value after its flag.
-use Rattle.std.specs.Prelude.{ℕ, ◌+◌, cond, List, [], ◌∷◌, length, Some, None, Ok, Err, Option, Result, ◌==◌, nat_lt, slice_index}
+use Rattle.std.specs.Prelude.{ℕ, ◌+◌, List, [], ◌∷◌, length, Some, None, Ok, Err, Option, Result, ◌==◌, nat_lt, slice_index, if◌then◌else◌}
+use Rattle.units.specs.Chains.{result_and_then, result_map_err}
 use Rattle.units.specs.declared.price.Price.{Price}
-use Rattle.units.specs.declared.zone_net.ZoneNet.{ZoneNet}
 use Rattle.units.specs.Quantities.{price_of, zone_net_of}
 use Rattle.sheet.specs.declared.fault.SheetFault.{SheetFault}
 use Rattle.sheet.specs.declared.fault.SheetFault.TheVariants as sf
@@ -17,46 +17,31 @@ opening = 0x49 ∷ 0x53 ∷ 0x50 ∷ 0x31 ∷ []
 abbrev pub opens : ℕ → List ℕ → List ℕ → Result (Unit {0}) SheetFault
 opens at [] s = Ok tt
 opens at (w ∷ want) [] = Err (sf.Ends at)
-opens at (w ∷ want) (b ∷ s) = cond (b == w) (opens (at + 1) want s) (Err (sf.Opening at))
+opens at (w ∷ want) (b ∷ s) = if b == w then opens (at + 1) want s else Err (sf.Opening at)
 
 -- the head goes by slot 228
 abbrev pub front : Spot
 front = record { place = 0; slot = 228 }
 
--- the avoided value, if any, and the place after it
-abbrev pub Avoided : Type 0
-Avoided = Result (Option Price × ℕ) SheetFault
+-- a fault in a number of the head is the sheet's
+abbrev pub in_head : {Q : Type 0} → Number Q → Result (Q × ℕ) SheetFault
+in_head x = result_map_err x sf.Head
 
-abbrev pub price_after : Number Price → Avoided
-price_after (Ok g) = Ok (Some g.0, g.1)
-price_after (Err f) = Err (sf.Head f)
-
--- a 0, or a 1 and the avoided value after it
-abbrev pub by_flag : List ℕ → ℕ → ℕ → Avoided
+-- a 0, or a 1 and the avoided value after it, with the place after them
+abbrev pub by_flag : List ℕ → ℕ → ℕ → Result (Option Price × ℕ) SheetFault
 by_flag s at flag =
-    cond (flag == 0) (Ok (None, at + 1))
-    (cond (flag == 1) (price_after (quantity price_of front s (at + 1)))
-    (Err (sf.Flag at)))
+    if flag == 0 then Ok (None, at + 1)
+    else if flag == 1 then result_and_then (in_head (quantity price_of front s (at + 1))) (λ price. Ok (Some price.0, price.1))
+    else Err (sf.Flag at)
 
 -- the flag at the place at, and what follows it
-unfoldable pub avoided_at : List ℕ → ℕ → Avoided
-avoided_at s at = cond (nat_lt at (length s)) (by_flag s at (slice_index s at)) (Err (sf.Ends (length s)))
+unfoldable pub avoided_at : List ℕ → ℕ → Result (Option Price × ℕ) SheetFault
+avoided_at s at = if nat_lt at (length s) then by_flag s at (slice_index s at) else Err (sf.Ends (length s))
 
-abbrev pub Headed : Type 0
-Headed = Result Head SheetFault
-
-abbrev pub joined : ZoneNet → Avoided → Headed
-joined net (Ok g) = Ok (record { zone_net = net; avoided = g.0; end = g.1 })
-joined net (Err f) = Err f
-
-abbrev pub net_then : List ℕ → Number ZoneNet → Headed
-net_then s (Ok g) = joined g.0 (avoided_at s g.1)
-net_then s (Err f) = Err (sf.Head f)
-
-abbrev pub opened_then : List ℕ → Result (Unit {0}) SheetFault → Headed
-opened_then s (Ok _) = net_then s (quantity zone_net_of front s 4)
-opened_then s (Err f) = Err f
-
--- the head of the sheet s, or its first fault
-unfoldable pub head_of : List ℕ → Headed
-head_of s = opened_then s (opens 0 opening s)
+-- the head of the sheet s, or its first fault: the opening, the zone net, the flag and the avoided value
+unfoldable pub head_of : List ℕ → Result Head SheetFault
+head_of s =
+    result_and_then (opens 0 opening s)
+    (λ opened. result_and_then (in_head (quantity zone_net_of front s 4))
+    (λ net. result_and_then (avoided_at s net.1)
+    (λ avoided. Ok (record { zone_net = net.0; avoided = avoided.0; end = avoided.1 }))))

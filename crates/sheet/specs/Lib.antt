@@ -1,9 +1,10 @@
 pub mod Faults
 pub mod Groups
-pub mod Heads
-pub mod Laws
 pub mod Numbers
-pub mod Readers
+pub mod Heads
 pub mod Records
 pub mod Rows
 pub mod Sheets
+pub mod Readers
+pub mod Laws
+pub mod Steps

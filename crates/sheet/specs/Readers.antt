@@ -1,6 +1,7 @@
 -- A reader that hands out the records of a sheet, one after another.
-use Rattle.std.specs.Prelude.{ℕ, zero, suc, ◌+◌, ◌-◌, List, [], ◌∷◌, length, drop, Some, None, Ok, Err, Option, Result, nat_lt, slice_index, if◌then◌else◌}
+use Rattle.std.specs.Prelude.{ℕ, zero, suc, ◌+◌, ◌-◌, List, [], ◌∷◌, length, drop, Some, None, Ok, Err, Option, Result, slice_index}
 use Rattle.std.specs.List.{between}
+use Rattle.units.specs.Chains.{result_and_then, result_map_err}
 use Rattle.source.specs.Slots.{Slot}
 use Rattle.units.specs.declared.demand.Demand.{Demand}
 use Rattle.units.specs.declared.price.Price.{Price}
@@ -11,7 +12,7 @@ use Rattle.sheet.specs.declared.fault.Spot.{Spot}
 use Rattle.sheet.specs.declared.reader.Reader.{Reader}
 use Rattle.sheet.specs.declared.slot_record.Record.{Record}
 use Rattle.sheet.specs.declared.slot_record.Record.TheVariants as rec
-use Rattle.sheet.specs.Heads.{head_of, Headed}
+use Rattle.sheet.specs.Heads.{head_of}
 use Rattle.sheet.specs.Records.{reported_slot, slot_told, Told}
 use Rattle.sheet.specs.Rows.{spot_at}
 use Rattle.sheet.specs.Sheets.{closes}
@@ -46,19 +47,13 @@ seen (rec.Both d u v body place) = reported_view place body.now d (Some u) (Some
 abbrev pub record_bytes : View → List ℕ
 record_bytes r = r.lead ∷ r.body
 
--- the same of a record or its fault
-abbrev pub record_seen : Result Record RecordFault → Result View RecordFault
-record_seen (Ok r) = Ok (seen r)
-record_seen (Err f) = Err f
-
 -- the record of n bytes at the front of s, which begins at p and tells v
 abbrev pub view_of : Spot → List ℕ → Slot → ℕ → View
 view_of p s v n = record { place = p.place; lead = slice_index s 0; body = between 1 n s; tells = v }
 
 -- the record of what is told, or its fault
 abbrev pub viewed : Spot → List ℕ → Told → Result View RecordFault
-viewed p s (Ok g) = Ok (view_of p s g.0 g.1)
-viewed p s (Err f) = Err f
+viewed p s x = result_and_then x (λ told. Ok (view_of p s told.0 told.1))
 
 -- the record at the front of s, which begins at p
 abbrev pub record_at : Spot → List ℕ → Result View RecordFault
@@ -70,22 +65,16 @@ Handed = Result View SheetFault
 
 -- what a value of the code says of it
 abbrev pub shown : Result Record SheetFault → Handed
-shown (Ok r) = Ok (seen r)
-shown (Err f) = Err f
+shown x = result_and_then x (λ r. Ok (seen r))
 
 -- a fault in a record is the sheet's
 abbrev pub in_sheet : Result View RecordFault → Handed
-in_sheet (Ok r) = Ok r
-in_sheet (Err f) = Err (sf.Slot f)
-
--- what the sheet s has at the place at: the record of slot i, or after slot 227 the fault that bytes are left
-abbrev pub here : List ℕ → ℕ → ℕ → Handed
-here s i at = if nat_lt i 228 then in_sheet (record_at (spot_at at i) (drop at s)) else Err (sf.After at)
+in_sheet x = result_map_err x sf.Slot
 
 -- a record, and what follows its bytes; or the fault alone
-abbrev pub then_after : Handed → (ℕ → List Handed) → List Handed
-then_after (Ok r) rest = Ok r ∷ rest (length (record_bytes r))
-then_after (Err f) rest = Err f ∷ []
+abbrev pub record_and_rest : Handed → (ℕ → List Handed) → List Handed
+record_and_rest (Ok r) rest = Ok r ∷ rest (length (record_bytes r))
+record_and_rest (Err f) rest = Err f ∷ []
 
 -- a fault, if there is one
 abbrev pub fault_alone : Result (Unit {0}) SheetFault → List Handed
@@ -95,22 +84,16 @@ fault_alone (Err f) = Err f ∷ []
 -- k records from slot i and the place at of the sheet s on, and the fault that bytes are left; or those before the first fault, and that fault
 unfoldable pub handed : ℕ → List ℕ → ℕ → ℕ → List Handed
 handed zero s i at = fault_alone (closes s at)
-handed (suc k) s i at = then_after (in_sheet (record_at (spot_at at i) (drop at s))) (λ n. handed k s (i + 1) (at + n))
+handed (suc k) s i at = record_and_rest (in_sheet (record_at (spot_at at i) (drop at s))) (λ n. handed k s (i + 1) (at + n))
 
 -- what a reader has still to hand out
 abbrev pub records_left : Reader → List Handed
 records_left r = handed (228 - r.slot) r.sheet.now r.slot r.at
 
--- what is handed out after a head, from slot 0 on
-abbrev pub reading_after : List ℕ → Headed → Result (List Handed) SheetFault
-reading_after s (Ok h) = Ok (handed 228 s 0 h.end)
-reading_after s (Err f) = Err f
-
--- what is handed out of the sheet s after its head, or the fault of its head
+-- what is handed out of the sheet s after its head, from slot 0 on; or the fault of its head
 unfoldable pub reading : List ℕ → Result (List Handed) SheetFault
-reading s = reading_after s (head_of s)
+reading s = result_and_then (head_of s) (λ h. Ok (handed 228 s 0 h.end))
 
 -- what a reader that was asked for has to hand out, or the fault in its place
 abbrev pub begun : Result Reader SheetFault → Result (List Handed) SheetFault
-begun (Ok r) = Ok (records_left r)
-begun (Err f) = Err f
+begun x = result_and_then x (λ r. Ok (records_left r))

@@ -1,5 +1,8 @@
 -- A whole sheet: what it tells as a price source, and its first fault.
-use Rattle.std.specs.Prelude.{ℕ, cond, List, length, replicate, None, Ok, Err, Option, Result, nat_lt, slice_index_or}
+use Rattle.std.specs.Prelude.{ℕ, List, length, replicate, None, Ok, Err, Option, Result, nat_lt, option_and_then, slice_index_or, if◌then◌else◌}
+use Rattle.std.specs.Option.{option_map_or}
+use Rattle.std.specs.Result.{result_ok}
+use Rattle.units.specs.Chains.{result_and_then, result_map_err}
 use Rattle.units.specs.declared.price.Price.{Price}
 use Rattle.units.specs.declared.zone_net.ZoneNet.{ZoneNet}
 use Rattle.units.specs.Quantities.{no_net}
@@ -8,52 +11,37 @@ use Rattle.source.specs.Meanings.{Meaning}
 use Rattle.sheet.specs.declared.fault.RecordFault.{RecordFault}
 use Rattle.sheet.specs.declared.fault.SheetFault.{SheetFault}
 use Rattle.sheet.specs.declared.fault.SheetFault.TheVariants as sf
-use Rattle.sheet.specs.Heads.{head_of, Headed}
+use Rattle.sheet.specs.Heads.{head_of}
 use Rattle.sheet.specs.Rows.{row, Row}
 
 -- no byte may follow the last slot
 abbrev pub closes : List ℕ → ℕ → Result (Unit {0}) SheetFault
-closes s at = cond (nat_lt at (length s)) (Err (sf.After at)) (Ok tt)
+closes s at = if nat_lt at (length s) then Err (sf.After at) else Ok tt
 
+-- the end of the slots, or their first fault, as the sheet's
 abbrev pub closed : List ℕ → Result ℕ RecordFault → Result (Unit {0}) SheetFault
-closed s (Ok at) = closes s at
-closed s (Err f) = Err (sf.Slot f)
+closed s x = result_and_then (result_map_err x sf.Slot) (closes s)
 
 -- the 228 slots from the place at on
 unfoldable pub slots_from : List ℕ → ℕ → Row
 slots_from s at = row 228 s 0 at
 
--- with a fault in the head nothing is told of any slot
-unfoldable pub slots_after : List ℕ → Headed → List Slot
-slots_after s (Ok h) = (slots_from s h.end).0
-slots_after s (Err f) = replicate 228 None
-
-abbrev pub fault_after : List ℕ → Headed → Result (Unit {0}) SheetFault
-fault_after s (Ok h) = closed s (slots_from s h.end).1
-fault_after s (Err f) = Err f
-
-abbrev pub net_of : Headed → ZoneNet
-net_of (Ok h) = h.zone_net
-net_of (Err f) = no_net
-
-abbrev pub avoided_of : Headed → Option Price
-avoided_of (Ok h) = h.avoided
-avoided_of (Err f) = None
-
--- what is told of each of the 228 slots
+-- what is told of each of the 228 slots; with a fault in the head, nothing of any
 unfoldable pub sheet_slots : List ℕ → List Slot
-sheet_slots s = slots_after s (head_of s)
+sheet_slots s = option_map_or (λ h. (slots_from s h.end).0) (result_ok (head_of s)) (replicate 228 None)
 
--- the first fault, from the front of the sheet, or that there is none
-unfoldable pub first_fault : List ℕ → Result (Unit {0}) SheetFault
-first_fault s = fault_after s (head_of s)
-
+-- the zone net; with a fault in the head, 0
 unfoldable pub sheet_net : List ℕ → ZoneNet
-sheet_net s = net_of (head_of s)
+sheet_net s = option_map_or (λ h. h.zone_net) (result_ok (head_of s)) no_net
 
+-- the avoided value, if there is one; with a fault in the head, none
 unfoldable pub sheet_avoided : List ℕ → Option Price
-sheet_avoided s = avoided_of (head_of s)
+sheet_avoided s = option_and_then (λ h. h.avoided) (result_ok (head_of s))
 
 -- what the bytes s tell as a price source
 abbrev pub sheet_meaning : List ℕ → Meaning
 sheet_meaning s = record { slots = λ k. slice_index_or (sheet_slots s) k None; zone = sheet_net s; avoided = sheet_avoided s }
+
+-- the first fault, from the front of the sheet, or that there is none
+unfoldable pub first_fault : List ℕ → Result (Unit {0}) SheetFault
+first_fault s = result_and_then (head_of s) (λ h. closed s (slots_from s h.end).1)

@@ -19,7 +19,8 @@ pub struct Reader<'a> {
 
 impl<'a> Reader<'a> {
     ghost use Rattle.sheet.specs.Laws.{ByRecords};
-    ghost use Rattle.sheet.specs.Readers.{begun, handed, here, reading, record_bytes, records_left, seen, shown};
+    ghost use Rattle.sheet.specs.Steps.{here};
+    ghost use Rattle.sheet.specs.Readers.{begun, handed, reading, record_bytes, records_left, seen, shown};
 
     /// The records of a sheet of any bytes, from slot 0 on; or the first fault of its head.
     #[tactic(auto, unfolding(crate::specs::Readers::reading))]

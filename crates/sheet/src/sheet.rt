@@ -43,7 +43,7 @@ fn tell(bytes: &[u8], head: Head, slots: &mut [Slot]) -> Result<(), SheetFault>
 
 impl<'a> Sheet<'a> {
     /// The sheet of any bytes, decoded once.
-    #[tactic(auto, unfolding(crate::specs::Sheets::sheet_slots, crate::specs::Sheets::sheet_net, crate::specs::Sheets::sheet_avoided, crate::specs::Sheets::first_fault, crate::specs::Sheets::slots_after))]
+    #[tactic(auto, unfolding(crate::specs::Sheets::sheet_slots, crate::specs::Sheets::sheet_net, crate::specs::Sheets::sheet_avoided, crate::specs::Sheets::first_fault))]
     pub fn read(bytes: &'a [u8]) -> Sheet<'a>
         ensures { result.bytes.now ≡ bytes.now }
     {

@@ -1,7 +1,8 @@
 // The record of one slot.
 ghost use Rattle.std.specs.Prelude.{◌≡◌, ◌+◌, ◌≤◌, ◌∷◌, length, IfOk};
 ghost use Rattle.sheet.specs.Records.{by_lead, pair};
-ghost use Rattle.sheet.specs.Readers.{record_at, record_bytes, record_seen, seen, viewed};
+ghost use Rattle.sheet.specs.Readers.{record_at, record_bytes, seen, viewed};
+ghost use Rattle.sheet.specs.Steps.{record_seen};
 
 use crate::fault::{NumberFault, RecordFault, Spot};
 use crate::part::Part;

@@ -6,14 +6,15 @@ use Rattle.std.specs.List.{AllByRecursion}
 use Rattle.units.specs.declared.price.Price.{Price}
 use Rattle.units.specs.declared.zone_net.ZoneNet.{ZoneNet}
 use Rattle.sheet.specs.declared.fault.SheetFault.{SheetFault}
-use Rattle.sheet.specs.Heads.{opening, opens, front, Avoided, by_flag, avoided_at, Headed, head_of}
+use Rattle.sheet.specs.Heads.{opening, opens, front, by_flag, avoided_at, head_of}
+use Rattle.sheet.specs.declared.head.Head.{Head}
 use Rattle.writing.specs.Bytes.{number_bytes, avoided_bytes}
 use Rattle.writing.proofs.NumberTrips.{net_back, price_back, net_form, price_form}
 
 abbrev pub bytes_of : ZoneNet → Option Price → List ℕ
 bytes_of net avoided = opening ++ (number_bytes net.kw ++ avoided_bytes avoided)
 
-abbrev pub head_with : ZoneNet → Option Price → ℕ → Headed
+abbrev pub head_with : ZoneNet → Option Price → ℕ → Result Head SheetFault
 head_with net avoided end = Ok (record { zone_net = net; avoided = avoided; end = end })
 
 flag_is : (s : List ℕ) (at x : ℕ) (t : List ℕ) → drop at s ≡ x ∷ t → avoided_at s at ≡ by_flag s at x
@@ -42,12 +43,12 @@ opens_opened at (w ∷ want) [] = tt
 opens_opened at (w ∷ want) (b ∷ s) = grind (arith, nat_tests, opens_opened (at + 1) want s)
 
 -- an avoided value that was read stood there as it is written
-abbrev Valued : List ℕ → ℕ → Avoided → Type 0
+abbrev Valued : List ℕ → ℕ → Result (Option Price × ℕ) SheetFault → Type 0
 Valued s at (Ok g) = drop at s ≡ avoided_bytes g.0 ++ drop g.1 s
 Valued s at (Err f) = Unit {0}
 
 -- and so the head
-abbrev pub HeadedAs : List ℕ → Headed → Type 0
+abbrev pub HeadedAs : List ℕ → Result Head SheetFault → Type 0
 HeadedAs s (Ok h) = s ≡ bytes_of h.zone_net h.avoided ++ drop h.end s
 HeadedAs s (Err f) = Unit {0}
 

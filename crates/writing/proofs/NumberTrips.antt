@@ -13,7 +13,8 @@ use Rattle.units.specs.declared.zone_net.ZoneNet.{ZoneNet}
 use Rattle.units.specs.Quantities.{if_t, demand_of, price_of, zone_net_of}
 use Rattle.sheet.specs.declared.fault.Spot.{Spot}
 use Rattle.sheet.specs.Groups.{groups, Groups, unfolded}
-use Rattle.sheet.specs.Numbers.{quantity, judged, bounded, ahead}
+use Rattle.sheet.specs.Numbers.{quantity, ahead}
+use Rattle.sheet.proofs.Places.{bounded, judged}
 use Rattle.writing.specs.Bytes.{folded, groups_of, number_bytes}
 
 -- groups are read back, whatever follows them

@@ -8,10 +8,13 @@ use Rattle.units.specs.declared.zone_net.ZoneNet.{ZoneNet}
 use Rattle.source.specs.Slots.{Slot}
 use Rattle.source.specs.Meanings.{Meaning}
 use Rattle.sheet.specs.declared.fault.RecordFault.{RecordFault}
-use Rattle.sheet.specs.Heads.{head_of, Headed}
-use Rattle.sheet.specs.Sheets.{closes, closed, slots_from, slots_after, fault_after, sheet_slots, first_fault, sheet_net, sheet_avoided, sheet_meaning}
+use Rattle.sheet.specs.Heads.{head_of}
+use Rattle.sheet.specs.declared.fault.SheetFault.{SheetFault}
+use Rattle.sheet.specs.declared.head.Head.{Head}
+use Rattle.sheet.proofs.Places.{fault_after}
+use Rattle.sheet.specs.Sheets.{closes, closed, slots_from, sheet_slots, first_fault, sheet_net, sheet_avoided, sheet_meaning}
 use Rattle.writing.specs.Bytes.{slot_bytes, row_bytes, head_bytes, sheet_bytes}
-use Rattle.writing.specs.Trips.{Alike, TellsBack, SameBytes}
+use Rattle.writing.specs.Trips.{TellsSame, TellsBack, SameBytes}
 use Rattle.writing.proofs.HeadTrips.{bytes_of, head_with, head_back, headed_as}
 use Rattle.writing.proofs.RowTrips.{slots_of, length_slots, get_or_slots, slots_same, row_joined, row_back, Stood, row_stood, row_counted}
 
@@ -49,7 +52,7 @@ module _ (m : Meaning) where
   no_fault = grind (arith, nat_tests, head_told, slots_told, whole)
 
   same_slots : sheet_slots sheet ≡ told
-  unfolding sheet_slots slots_after
+  unfolding sheet_slots
   same_slots = grind (arith, head_told, slots_told)
 
   -- the written sheet has no fault and tells what was written
@@ -58,7 +61,7 @@ module _ (m : Meaning) where
   tells_back = record { sound = no_fault; alike = grind (arith, head_told, same_slots, get_or_slots m.slots 228) }
 
 -- a sheet b without a fault, and a source that means what it tells
-module _ (m : Meaning) (b : List ℕ) (bytes : AllByRecursion (λ x. x < 256) b) (alike : Alike (sheet_meaning b) m) where
+module _ (m : Meaning) (b : List ℕ) (bytes : AllByRecursion (λ x. x < 256) b) (alike : TellsSame (sheet_meaning b) m) where
   -- with its head, whose slots end at the sheet's end
   module _ (net : ZoneNet) (avoided : Option Price) (at : ℕ) (e : head_of b ≡ head_with net avoided at) where
     head_same : bytes_of net avoided ≡ head_bytes m
@@ -66,7 +69,7 @@ module _ (m : Meaning) (b : List ℕ) (bytes : AllByRecursion (λ x. x < 256) b)
     head_same = grind (arith, e, alike.zones, alike.values)
 
     row_same : flat_map slot_bytes (slots_from b at).0 ≡ row_bytes m.slots 228
-    unfolding sheet_slots slots_after slots_from
+    unfolding sheet_slots slots_from
     row_same = grind (arith, e, row_counted 228 b 0 at, slots_same m.slots 228 (sheet_slots b), alike.slots, row_joined m.slots 228)
 
     closed_same : (r : Result ℕ RecordFault) → Stood b at (slots_from b at).0 r → closed b r ≡ Ok tt → drop at b ≡ row_bytes m.slots 228
@@ -81,7 +84,7 @@ module _ (m : Meaning) (b : List ℕ) (bytes : AllByRecursion (λ x. x < 256) b)
     unfolding sheet_bytes
     whole_same c = grind (arith, e, headed_as b bytes, head_same, rest_same)
 
-  by_head : (x : Headed) → head_of b ≡ x → fault_after b x ≡ Ok tt → sheet_bytes m ≡ b
+  by_head : (x : Result Head SheetFault) → head_of b ≡ x → fault_after b x ≡ Ok tt → sheet_bytes m ≡ b
   by_head (Ok h) e c = whole_same h.zone_net h.avoided h.end e c
   by_head (Err f) e c = cc
 

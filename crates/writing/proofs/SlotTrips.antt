@@ -1,5 +1,5 @@
 -- The record of a slot is read back as it was written, and was written in the one form that is read.
-use Rattle.std.proofs.Common.{◌≡◌, ℕ, ◌+◌, ◌<◌, List, [], ◌∷◌, ◌++◌, length, drop, Some, None, Ok, Err, Option, refl, ap, ◌∙◌, append_assoc, append-nil, arith, length-append}
+use Rattle.std.proofs.Common.{◌≡◌, ℕ, ◌+◌, ◌<◌, List, [], ◌∷◌, ◌++◌, length, drop, Some, None, Ok, Err, Option, Result, refl, ap, ◌∙◌, append_assoc, append-nil, arith, length-append}
 use Rattle.std.proofs.lemmas.List.{drop_at}
 use Rattle.std.proofs.lemmas.Bool.Decides.{nat_tests}
 use Rattle.std.proofs.lemmas.Grind.{common_steps}
@@ -7,9 +7,10 @@ use Rattle.std.specs.List.{AllByRecursion}
 use Rattle.units.specs.declared.demand.Demand.{Demand}
 use Rattle.units.specs.declared.price.Price.{Price}
 use Rattle.source.specs.Slots.{Slot}
+use Rattle.sheet.specs.declared.fault.NumberFault.{NumberFault}
 use Rattle.sheet.specs.declared.fault.Spot.{Spot}
 use Rattle.sheet.specs.Numbers.{ahead}
-use Rattle.sheet.specs.Records.{slot_told, by_lead, Told, Pair, pair, reported_slot}
+use Rattle.sheet.specs.Records.{slot_told, by_lead, Told, pair, reported_slot}
 use Rattle.writing.specs.Bytes.{number_bytes, slot_bytes}
 use Rattle.writing.proofs.NumberTrips.{demand_back, price_back, demand_form, price_form}
 
@@ -43,7 +44,7 @@ slot_back p None rest = refl
 slot_back p (Some r) rest = reading_back p r.demand r.up r.down rest
 
 -- the two numbers that were read stood there as they are written
-abbrev Paired : List ℕ → Pair → Type 0
+abbrev Paired : List ℕ → Result (Demand × Price × ℕ) NumberFault → Type 0
 Paired s (Ok g) = s ≡ number_bytes g.0.kw ++ (number_bytes g.1.cents ++ drop g.2 s)
 Paired s (Err f) = Unit {0}
 

@@ -1,5 +1,5 @@
 -- The bytes of a sheet, from what a source means.
-use Rattle.std.specs.Prelude.{ℕ, zero, suc, ◌+◌, ◌*◌, ◌/◌, ◌%◌, cond, List, [], ◌∷◌, ◌++◌, ℤ, pos, negsuc, Some, None, Option, nat_lt}
+use Rattle.std.specs.Prelude.{ℕ, zero, suc, ◌+◌, ◌*◌, ◌/◌, ◌%◌, List, [], ◌∷◌, ◌++◌, ℤ, pos, negsuc, Some, None, Option, nat_lt, if◌then◌else◌}
 use Rattle.sheet.specs.Heads.{opening}
 use Rattle.sheet.specs.Readers.{by_prices}
 use Rattle.source.specs.Meanings.{Meaning}
@@ -16,14 +16,16 @@ folded (negsuc n) = 2 * n + 1
 -- groups of seven bits, lowest first, 128 added to each but the last; u is below 2 ^ 28
 abbrev pub groups_of : ℕ → List ℕ
 groups_of u =
-    cond (nat_lt u 128) (u ∷ [])
-    (cond (nat_lt u 16384) ((u % 128 + 128) ∷ (u / 128) ∷ [])
-    (cond (nat_lt u 2097152) ((u % 128 + 128) ∷ (u / 128 % 128 + 128) ∷ (u / 16384) ∷ [])
-    ((u % 128 + 128) ∷ (u / 128 % 128 + 128) ∷ (u / 16384 % 128 + 128) ∷ (u / 2097152) ∷ [])))
+    if nat_lt u 128 then (u ∷ [])
+    else if nat_lt u 16384 then ((u % 128 + 128) ∷ (u / 128) ∷ [])
+    else if nat_lt u 2097152 then ((u % 128 + 128) ∷ (u / 128 % 128 + 128) ∷ (u / 16384) ∷ [])
+    else ((u % 128 + 128) ∷ (u / 128 % 128 + 128) ∷ (u / 16384 % 128 + 128) ∷ (u / 2097152) ∷ [])
 
+-- a number, stored in groups
 unfoldable pub number_bytes : ℤ → List ℕ
 number_bytes z = groups_of (folded z)
 
+-- a price, if there is one
 abbrev pub price_bytes : Option Price → List ℕ
 price_bytes None = []
 price_bytes (Some p) = number_bytes p.cents
@@ -32,6 +34,7 @@ price_bytes (Some p) = number_bytes p.cents
 abbrev pub reading_bytes : Reading → List ℕ
 reading_bytes r = by_prices r.up r.down ∷ (number_bytes r.demand.kw ++ (price_bytes r.up ++ price_bytes r.down))
 
+-- a 0 for a slot that is not reported
 abbrev pub slot_bytes : Slot → List ℕ
 slot_bytes None = 0 ∷ []
 slot_bytes (Some r) = reading_bytes r
@@ -46,6 +49,7 @@ abbrev pub avoided_bytes : Option Price → List ℕ
 avoided_bytes None = 0 ∷ []
 avoided_bytes (Some p) = 1 ∷ number_bytes p.cents
 
+-- the opening, the zone net and the avoided value
 unfoldable pub head_bytes : Meaning → List ℕ
 head_bytes m = opening ++ (number_bytes m.zone.kw ++ avoided_bytes m.avoided)
 

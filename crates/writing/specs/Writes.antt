@@ -1,18 +1,19 @@
 -- What a writer answers and leaves.
-use Rattle.std.specs.Prelude.{ℕ, cond, List, ◌++◌, length, drop, Ok, Err, Result, nat_lt}
+use Rattle.std.specs.Prelude.{ℕ, List, ◌++◌, length, drop, Ok, Err, Result, nat_lt, if◌then◌else◌}
 use Rattle.writing.specs.declared.short_buffer.ShortBuffer.{ShortBuffer}
 
 -- the length of the sheet s, or the refusal where the buffer is shorter
 abbrev pub written : List ℕ → List ℕ → Result ℕ ShortBuffer
-written s before = cond (nat_lt (length before) (length s)) (Err (record { needed = length s })) (Ok (length s))
+written s before = if nat_lt (length before) (length s) then Err (record { needed = length s }) else Ok (length s)
 
 -- the sheet and then what stood there before; all that stood there where the buffer is shorter
 abbrev pub left : List ℕ → List ℕ → List ℕ
-left s before = cond (nat_lt (length before) (length s)) before (s ++ drop (length s) before)
+left s before = if nat_lt (length before) (length s) then before else (s ++ drop (length s) before)
 
--- the number and the place of the refusal
+-- the number of the refusal
 abbrev pub buffer_number : ShortBuffer → ℕ
 buffer_number f = 15
 
+-- its place: how many bytes are needed
 abbrev pub buffer_place : ShortBuffer → ℕ
 buffer_place f = f.needed
