@@ -15,13 +15,14 @@ use Rattle.units.specs.Text.{euros}
 use Rattle.units.specs.declared.demand.Demand.{Demand}
 use Rattle.units.specs.declared.price.Price.{Price}
 use Rattle.units.specs.declared.zone_net.ZoneNet.{ZoneNet}
-use Rattle.quarter_text.specs.Lines.{Words, avoided_line, numbered, price_at, range_line, slot_of, slots_from, told_by, zone_net_line}
+use Rattle.quarter_text.specs.Ranges.{numbered, slot_of, slots_from}
+use Rattle.quarter_text.specs.Lines.{Words, avoided_line, price_at, range_line, told_by, zone_net_line}
 use Rattle.quarter_text.specs.Numerals.{numeral, value_of}
 use Rattle.quarter_text.specs.Texts.{price_text, slots_text, told_text}
 use Rattle.quarter_text.specs.Words.{words_of}
 use Rattle.quarter_text.specs.declared.fault.Part.{Part}
 use Rattle.quarter_text.specs.declared.fault.Part.TheVariants as part
-use Rattle.quarter_text.specs.declared.line.Range.{Range}
+use Rattle.quarter_text.specs.declared.range.Range.{Range}
 use Rattle.quarter_text.proofs.Tokens.{Word, inline, inline_joined, inline_word, plain_joined, word_first, word_last}
 use Rattle.quarter_text.proofs.Digits.{Writes, decimal_writes, digits_plain, digits_read, no_place, place_after, word_of_digits}
 use Rattle.quarter_text.proofs.Numbers.{Reads, digits_first, euros_read, no_letter, number, signed_read, value_number}

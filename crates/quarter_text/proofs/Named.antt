@@ -3,7 +3,7 @@ use Rattle.std.proofs.Common.{◌≡◌, ℕ, zero, suc, ◌+◌, ◌-◌, ◌<�
 use Rattle.std.proofs.lemmas.List.{get_or_default}
 use Rattle.source.specs.Slots.{Slot}
 use Rattle.quarter_text.specs.Drafts.{name_slots}
-use Rattle.quarter_text.specs.Lines.{at_word}
+use Rattle.quarter_text.specs.Faults.{at_word}
 use Rattle.quarter_text.specs.declared.fault.Problem.TheVariants.{NamedTwice}
 use Rattle.quarter_text.specs.declared.fault.WordFault.{WordFault}
 

@@ -10,16 +10,18 @@ use Rattle.units.specs.declared.price.Price.{Price}
 use Rattle.units.specs.declared.zone_net.ZoneNet.{ZoneNet}
 use Rattle.writing.proofs.SheetTrips.{same_bytes}
 use Rattle.writing.specs.Bytes.{sheet_bytes}
-use Rattle.writing.specs.Trips.{Alike}
-use Rattle.quarter_text.specs.Drafts.{and_then, blank, finished, with_line, with_lines, with_slots}
-use Rattle.quarter_text.specs.Lines.{slots_from}
+use Rattle.writing.specs.Trips.{TellsSame}
+use Rattle.units.specs.Chains.{result_and_then}
+use Rattle.quarter_text.specs.Drafts.{blank, finished, with_line, with_lines, with_slots}
+use Rattle.quarter_text.specs.Ranges.{slots_from}
 use Rattle.source.specs.Tables.{idle}
 use Rattle.quarter_text.specs.Quarters.{meaning_of}
 use Rattle.quarter_text.specs.Texts.{ends_run, head_text, lines_to, price_text, run_start, run_text, same_slot, slots_text, text_of, told_text}
 use Rattle.quarter_text.specs.Trips.{ReadsBack, SameSheet}
 use Rattle.quarter_text.specs.Words.{lines_of, words_of}
+use Rattle.quarter_text.specs.declared.draft.AvoidedValue.TheVariants.{NotYetSaid, Said}
 use Rattle.quarter_text.specs.declared.draft.Draft.{Draft}
-use Rattle.quarter_text.specs.declared.quarter.Quarter.{Quarter}
+use Rattle.quarter_text.specs.declared.quarter.TextQuarter.{TextQuarter}
 use Rattle.quarter_text.proofs.LineTrips.{OneLine, avoided_there, avoided_words, head_inline, net_there, net_words, slots_read, told_inline, told_split, told_there, told_words}
 use Rattle.quarter_text.proofs.Runs.{Named, in_run, named_run, one_line, slot_is, start_first, start_low, start_next, start_stays}
 use Rattle.quarter_text.proofs.Tokens.{inline, inline_joined, inline_word, line_first, word_first}
@@ -46,10 +48,10 @@ leads_line l d e p h n u =
 -- THE HEAD
 
 abbrev netted : ZoneNet → Draft
-netted z = record { zone_net = Some z; avoided = None; named = replicate 228 None }
+netted z = record { zone_net = Some z; avoided = NotYetSaid; named = replicate 228 None }
 
 abbrev headed : ZoneNet → Option Price → Draft
-headed z v = record { zone_net = Some z; avoided = Some v; named = replicate 228 None }
+headed z v = record { zone_net = Some z; avoided = Said v; named = replicate 228 None }
 
 head_leads : (z : ZoneNet) (v : Option Price) → Leads (head_text z.kw v) blank (headed z v)
 unfolding head_text
@@ -182,13 +184,13 @@ pub reads_back : (m : Meaning) → ReadsBack m
 unfolding text_of
 reads_back m =
     let s = stood m.slots m.zone m.avoided 228 (omega arith) in
-    let q : Quarter = record { zone_net = m.zone; avoided = m.avoided; named = s.named } in
+    let q : TextQuarter = record { zone_net = m.zone; avoided = m.avoided; named = s.named } in
     let leads = leads_both (head_text m.zone.kw m.avoided) (lines_to m.slots 228) blank (headed m.zone m.avoided) (with_slots (headed m.zone m.avoided) s.named) (head_leads m.zone m.avoided) s.leads in
     let text : List ℕ = head_text m.zone.kw m.avoided ++ lines_to m.slots 228 in
     let read : with_lines 0 blank (lines_of text) ≡ Ok (with_slots (headed m.zone m.avoided) s.named) = ap (λ t. with_lines 0 blank (lines_of t)) (sym (append-nil text)) ∙ (leads 0 []).1 in
     record {
       quarter = q;
-      read = ap (λ r. and_then r (λ d. finished (length (lines_of text)) d.named d.zone_net d.avoided)) read;
+      read = ap (λ r. result_and_then r (λ d. finished (length (lines_of text)) d.named d.zone_net d.avoided)) read;
       alike = record {
         slots = λ k l. ap (λ o. unwrap_or o idle) (s.marked.before k (omega (arith, l, last_ends m.slots))) ∙ told_again (m.slots k);
         zones = refl;
@@ -196,14 +198,14 @@ reads_back m =
       };
     }
 
-ok_same : {p q : Quarter} {F : Type 0} → ◌≡◌ {A = Result Quarter F} (Ok p) (Ok q) → p ≡ q
+ok_same : {p q : TextQuarter} {F : Type 0} → ◌≡◌ {A = Result TextQuarter F} (Ok p) (Ok q) → p ≡ q
 ok_same e = cc
 
 pub same_sheet : (m : Meaning) → SameSheet m
 same_sheet m b bytes sound alike q e =
     let r = reads_back m in
     let same : r.quarter ≡ q = ok_same (sym r.read ∙ e) in
-    let a : Alike (sheet_meaning b) (meaning_of r.quarter) = record {
+    let a : TellsSame (sheet_meaning b) (meaning_of r.quarter) = record {
       slots = λ k l. alike.slots k l ∙ sym (r.alike.slots k l);
       zones = alike.zones ∙ sym r.alike.zones;
       values = alike.values ∙ sym r.alike.values;

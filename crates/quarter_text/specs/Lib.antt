@@ -1,10 +1,12 @@
-pub mod Drafts
+pub mod Words
 pub mod Faults
-pub mod Lines
 pub mod Numerals
 pub mod Products
+pub mod Ranges
+pub mod Lines
+pub mod Drafts
 pub mod Quarters
 pub mod Reading
 pub mod Texts
 pub mod Trips
-pub mod Words
+pub mod Steps

@@ -4,6 +4,7 @@ use Rattle.std.specs.Str.{bytes_eq}
 use Rattle.source.specs.declared.product.ManualProduct.{ManualProduct}
 use Rattle.source.specs.declared.product.ManualProduct.TheVariants.{Scheduled, DirectUp, DirectDown}
 
+-- the word of a product
 abbrev pub product_word : ManualProduct → List ℕ
 product_word Scheduled = codes "scheduled"
 product_word DirectUp = codes "up"

@@ -3,8 +3,8 @@ use Rattle.std.specs.Prelude.{None, slice_index_or}
 use Rattle.std.specs.Option.{unwrap_or}
 use Rattle.source.specs.Meanings.{Meaning}
 use Rattle.source.specs.Tables.{idle}
-use Rattle.quarter_text.specs.declared.quarter.Quarter.{Quarter}
+use Rattle.quarter_text.specs.declared.quarter.TextQuarter.{TextQuarter}
 
 -- a slot that is not named is idle
-abbrev pub meaning_of : Quarter → Meaning
+abbrev pub meaning_of : TextQuarter → Meaning
 meaning_of q = record { slots = λ k. unwrap_or (slice_index_or q.named k None) idle; zone = q.zone_net; avoided = q.avoided }

@@ -1,5 +1,5 @@
 -- The text of what a source means.
-use Rattle.std.specs.Prelude.{ℕ, zero, suc, ◌+◌, Bool, true, false, not, cond, ◌&&◌, ◌||◌, List, [], ◌∷◌, ◌++◌, ℤ, Some, None, Ok, Err, Option, Result, ◌==◌, nat_le, decimal, codes, if◌then◌else◌}
+use Rattle.std.specs.Prelude.{ℕ, zero, suc, ◌+◌, Bool, true, false, not, ◌&&◌, ◌||◌, List, [], ◌∷◌, ◌++◌, ℤ, Some, None, Ok, Err, Option, Result, ◌==◌, nat_le, decimal, codes, if◌then◌else◌}
 use Rattle.std.specs.Fmt.{signed_decimal}
 use Rattle.std.specs.Ordering.{int_eq}
 use Rattle.source.specs.Meanings.{Meaning}
@@ -24,6 +24,7 @@ price_text (Some p) = euros p.cents
 abbrev pub cycles_text : ℕ → ℕ → List ℕ
 cycles_text a b = if a == b then decimal a else (decimal a ++ (45 ∷ decimal b))
 
+-- the same by the product of the first
 abbrev pub slots_by : Result Product NoSuchSlot → ℕ → ℕ → List ℕ
 slots_by (Ok (Manual p)) a b = product_word p
 slots_by (Ok Automatic) a b = cycles_text a b
@@ -33,6 +34,7 @@ slots_by (Err e) a b = cycles_text a b
 abbrev pub slots_text : ℕ → ℕ → List ℕ
 slots_text a b = slots_by (product_of a) a b
 
+-- what is told of a slot
 abbrev pub told_text : Slot → List ℕ
 told_text None = codes "unreported"
 told_text (Some r) = signed_decimal r.demand.kw ++ (32 ∷ (price_text r.up ++ (32 ∷ price_text r.down)))
@@ -41,12 +43,14 @@ told_text (Some r) = signed_decimal r.demand.kw ++ (32 ∷ (price_text r.up ++ (
 abbrev pub run_text : ℕ → ℕ → Slot → List ℕ
 run_text a b s = slots_text a b ++ (32 ∷ (told_text s ++ (10 ∷ [])))
 
+-- whether two prices are the same
 abbrev pub same_price : Option Price → Option Price → Bool
 same_price None None = true
 same_price None (Some q) = false
 same_price (Some p) None = false
 same_price (Some p) (Some q) = int_eq p.cents q.cents
 
+-- whether the same is told of two slots
 abbrev pub same_slot : Slot → Slot → Bool
 same_slot None None = true
 same_slot None (Some b) = false
@@ -60,21 +64,22 @@ ends_run m k = nat_le CYCLES (k + 1) || not (same_slot (m k) (m (k + 1)))
 -- the first slot of the run in which k stands
 unfoldable pub run_start : (ℕ → Slot) → ℕ → ℕ
 run_start m zero = 0
-run_start m (suc k) = cond (ends_run m k) (suc k) (run_start m k)
+run_start m (suc k) = if ends_run m k then suc k else run_start m k
 
 -- idle slots have no line
 abbrev pub shown_run : ℕ → ℕ → Slot → List ℕ
-shown_run a b s = cond (same_slot s idle) [] (run_text a b s)
+shown_run a b s = if same_slot s idle then [] else run_text a b s
 
 -- the line of the run that ends at k, if one does
 abbrev pub line_of : (ℕ → Slot) → ℕ → List ℕ
-line_of m k = cond (ends_run m k) (shown_run (run_start m k) k (m k)) []
+line_of m k = if ends_run m k then shown_run (run_start m k) k (m k) else []
 
 -- the lines of the first n slots
 unfoldable pub lines_to : (ℕ → Slot) → ℕ → List ℕ
 lines_to m zero = []
 lines_to m (suc k) = lines_to m k ++ line_of m k
 
+-- the lines of the zone net and the avoided value
 unfoldable pub head_text : ℤ → Option Price → List ℕ
 head_text net avoided = codes "net " ++ (signed_decimal net ++ (10 ∷ (codes "avoided " ++ (price_text avoided ++ (10 ∷ [])))))
 

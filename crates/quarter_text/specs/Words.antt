@@ -18,6 +18,7 @@ uncommented line = before_first (λ b. b == 35) line
 abbrev pub words_of : List ℕ → List (List ℕ)
 words_of line = filter (λ w. nat_lt 0 (length w)) (slice_split is_blank (uncommented line))
 
+-- a word of a line, if there is such a line
 abbrev pub word_in : Option (List ℕ) → ℕ → Option (List ℕ)
 word_in None word = None
 word_in (Some line) word = slice_get (words_of line) word

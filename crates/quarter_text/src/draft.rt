@@ -1,20 +1,28 @@
 // A quarter of which some lines are read.
 ghost use Rattle.std.specs.Prelude.{◌≡◌, ◌+◌, ◌-◌, ◌<◌, ◌≤◌, IfOk};
-ghost use Rattle.quarter_text.specs.Drafts.{blank, finished, left, name_slots, with_line};
-ghost use Rattle.quarter_text.specs.Lines.{words_in};
+ghost use Rattle.quarter_text.specs.Drafts.{blank, finished, name_slots, with_line};
+ghost use Rattle.quarter_text.specs.Steps.{left, words_in};
 
-use crate::fault::{Part, Problem, TextFault, WordFault};
-use crate::line::{Line, Range, at_word};
-use crate::quarter::Quarter;
+use crate::fault::{Part, Problem, TextFault, WordFault, at_word};
+use crate::line::Line;
+use crate::quarter::TextQuarter;
+use crate::range::Range;
 use source::slot::{SLOTS, Slot};
 use units::price::Price;
 use units::zone_net::ZoneNet;
+
+/// The avoided value, as far as the lines so far say it: there is one, or there is none.
+#[derive(Clone, Copy)]
+pub(crate) enum AvoidedValue {
+    NotYetSaid,
+    Said(Option<Price>),
+}
 
 /// What the lines so far tell; a slot that none of them names is nothing yet.
 #[derive(Clone, Copy)]
 pub(crate) struct Draft {
     zone_net: Option<ZoneNet>,
-    avoided: Option<Option<Price>>,
+    avoided: AvoidedValue,
     named: [Option<Slot>; SLOTS],
 }
 
@@ -40,7 +48,7 @@ impl Draft {
     {
         Draft {
             zone_net: None,
-            avoided: None,
+            avoided: AvoidedValue::NotYetSaid,
             named: [None; SLOTS],
         }
     }
@@ -54,8 +62,10 @@ impl Draft {
         }
         match (self.zone_net, self.avoided) {
             (None, _) => self.zone_net = Some(line.zone_net()?),
-            (Some(_), None) => self.avoided = Some(line.avoided()?),
-            (Some(_), Some(_)) => {
+            (Some(_), AvoidedValue::NotYetSaid) => {
+                self.avoided = AvoidedValue::Said(line.avoided()?);
+            }
+            (Some(_), AvoidedValue::Said(_)) => {
                 let range = line.range()?;
                 let told = line.told(range)?;
                 name_slots(&mut self.named, range, told)?;
@@ -65,7 +75,7 @@ impl Draft {
     }
 
     /// The quarter, where the text has so many lines.
-    pub(crate) fn finished(self, lines: usize) -> Result<Quarter, TextFault>
+    pub(crate) fn finished(self, lines: usize) -> Result<TextQuarter, TextFault>
         ensures { result ≡ finished lines self.named self.zone_net self.avoided }
     {
         let missing = |part| TextFault {
@@ -73,10 +83,15 @@ impl Draft {
             word: 0,
             problem: Problem::Missing(part),
         };
-        Ok(Quarter {
-            zone_net: self.zone_net.ok_or(missing(Part::Net))?,
-            avoided: self.avoided.ok_or(missing(Part::Avoided))?,
-            named: self.named,
+        let zone_net = self.zone_net.ok_or(missing(Part::Net))?;
+        let AvoidedValue::Said(avoided) = self.avoided else {
+            return Err(missing(Part::Avoided));
+        };
+        let named = self.named;
+        Ok(TextQuarter {
+            zone_net,
+            avoided,
+            named,
         })
     }
 }

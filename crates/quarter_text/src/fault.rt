@@ -1,6 +1,6 @@
 // Where a text goes wrong, and why.
 ghost use Rattle.std.specs.Prelude.{◌≡◌};
-ghost use Rattle.quarter_text.specs.Faults.{fault_in};
+ghost use Rattle.quarter_text.specs.Faults.{at_word, expected_at, fault_in, in_bounds};
 ghost use Rattle.quarter_text.specs.declared.fault.ReadFault.TheVariants.{Text, Memory};
 
 use std::alloc::AllocError;
@@ -53,6 +53,30 @@ pub struct TextFault {
     pub line: usize,
     pub word: usize,
     pub problem: Problem,
+}
+
+pub(crate) fn at_word<T>(word: usize, problem: Problem) -> Result<T, WordFault>
+    ensures { result ≡ at_word word problem }
+{
+    Err(WordFault { word, problem })
+}
+
+pub(crate) fn expected(word: usize, part: Part) -> WordFault
+    ensures { result ≡ expected_at word part }
+{
+    WordFault {
+        word,
+        problem: Problem::Expected(part),
+    }
+}
+
+pub(crate) fn in_bounds<Q>(word: usize, made: Result<Q, OutOfBounds>) -> Result<Q, WordFault>
+    ensures { result ≡ in_bounds word made }
+{
+    made.map_err(|beyond| WordFault {
+        word,
+        problem: Problem::Bounds(beyond),
+    })
 }
 
 impl WordFault {

@@ -3,6 +3,7 @@
 
 mod decimal;
 mod draft;
+mod energy;
 pub mod fault;
 mod line;
 pub mod message;
@@ -10,5 +11,6 @@ mod numeral;
 pub mod printing;
 mod product;
 pub mod quarter;
+mod range;
 pub mod reading;
 mod words;

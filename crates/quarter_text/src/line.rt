@@ -1,130 +1,27 @@
 // What the words of a line say.
-ghost use Rattle.std.specs.Prelude.{◌≡◌, ◌*◌, ◌<◌, ◌≤◌, IfOk, Ok, ◌==◌};
-ghost use Rattle.std.specs.List.{position};
-ghost use Rattle.quarter_text.specs.Lines.{at_word, avoided_line, bytes_read, end_at, expected_at, in_bounds, is_word, keyword, number_at, numbered, power, price_at, prices_after, quantity_at, range_line, read_number, slot_of, slots_from, then, told_by, weight_of_range, word_at, words_in, zone_net_line};
-ghost use Rattle.quarter_text.specs.declared.fault.Part.TheVariants as part;
+ghost use Rattle.std.specs.Prelude.{◌≡◌, ◌<◌, ◌≤◌, IfOk, Ok};
+ghost use Rattle.units.specs.Chains.{result_and_then};
 ghost use Rattle.units.specs.Quantities.{demand_of};
-ghost use Rattle.quarter_text.specs.Numerals.{capped, number_of};
+ghost use Rattle.quarter_text.specs.Lines.{avoided_line, end_at, is_word, keyword, number_at, price_at, prices_after, quantity_at, range_line, told_by, word_at, zone_net_line};
+ghost use Rattle.quarter_text.specs.Numerals.{capped};
+ghost use Rattle.quarter_text.specs.Steps.{bytes_read, read_number, words_in};
+ghost use Rattle.quarter_text.specs.declared.fault.Part.TheVariants as part;
 
-use crate::decimal::{digits, first_at};
-use crate::fault::{Part, Problem, WordFault};
+use crate::energy::power;
+use crate::fault::{Part, WordFault, expected, in_bounds};
 use crate::numeral::Numeral;
-use crate::product::product_named;
+use crate::range::Range;
 use crate::words::nth;
-use source::product::{CYCLES, weight_of};
 use source::slot::{Reading, SLOTS, Slot};
-use units::bounds::OutOfBounds;
 use units::demand::Demand;
 use units::price::Price;
 use units::quantity::Quantity;
 use units::zone_net::ZoneNet;
 
-/// The slots from the first to the last.
-#[derive(Clone, Copy)]
-pub(crate) struct Range {
-    pub(crate) first: usize,
-    pub(crate) last: usize,
-}
-
 /// The words of a line.
 #[derive(Clone, Copy)]
 pub(crate) struct Line<'a> {
     pub(crate) words: &'a [&'a [u8]],
-}
-
-pub(crate) fn at_word<T>(word: usize, problem: Problem) -> Result<T, WordFault>
-    ensures { result ≡ at_word word problem }
-{
-    Err(WordFault { word, problem })
-}
-
-fn expected(word: usize, part: Part) -> WordFault
-    ensures { result ≡ expected_at word part }
-{
-    WordFault {
-        word,
-        problem: Problem::Expected(part),
-    }
-}
-
-fn in_bounds<Q>(word: usize, made: Result<Q, OutOfBounds>) -> Result<Q, WordFault>
-    ensures { result ≡ in_bounds word made }
-{
-    made.map_err(|beyond| WordFault {
-        word,
-        problem: Problem::Bounds(beyond),
-    })
-}
-
-impl Range {
-    fn one(slot: usize) -> Range
-        ensures { result ≡ slots_from slot slot }
-    {
-        Range {
-            first: slot,
-            last: slot,
-        }
-    }
-
-    // The weights of the slots.
-    fn weight(self) -> u64
-        requires { (self.first ≤ self.last) × (self.last < SLOTS) }
-        ensures value { result ≡ weight_of_range self }
-        ensures low { 1 ≤ result }
-        ensures high { result ≤ SLOTS * CYCLES }
-    {
-        let mut weight = 0;
-        for slot in self.first..=self.last {
-            weight += weight_of(slot);
-        }
-        weight
-    }
-}
-
-fn slot_of(word: &[u8]) -> Result<usize, WordFault>
-    ensures reads { result ≡ slot_of word.now }
-    ensures within { IfOk result (λ k. k < SLOTS) }
-{
-    let slot = digits(word).ok_or(expected(0, Part::Slots))?;
-    if slot >= SLOTS as u64 {
-        return at_word(0, Problem::NoSuchSlot);
-    }
-    Ok(slot as usize)
-}
-
-// A slot, or the first and the last of a range.
-fn numbered(word: &[u8]) -> Result<Range, WordFault>
-    ensures reads { result ≡ numbered word.now (position (λ b. b == 45) word.now) }
-    ensures within { IfOk result (λ r. (r.first ≤ r.last) × (r.last < SLOTS)) }
-{
-    let Some(dash) = first_at(word, b'-') else {
-        return Ok(Range::one(slot_of(word)?));
-    };
-    let first = slot_of(&word[..dash])?;
-    let last = slot_of(&word[dash + 1..])?;
-    if first > last {
-        return at_word(0, Problem::BackwardRange);
-    }
-    Ok(Range { first, last })
-}
-
-// Energy over slots of this weight in all, as the demand in each of them.
-fn power(word: usize, weight: u64, energy: Numeral) -> Result<Demand, WordFault>
-    requires { (1 ≤ weight) × (weight ≤ SLOTS * CYCLES) }
-    ensures { result ≡ power word weight (number_of energy) }
-{
-    let size = energy.size * 900;
-    if size > 10_000_000 * weight {
-        return at_word(word, Problem::Bounds(OutOfBounds::Demand));
-    }
-    if size % weight != 0 {
-        return at_word(word, Problem::NotWholeKw);
-    }
-    let kw = Numeral {
-        size: size / weight,
-        negative: energy.negative,
-    };
-    in_bounds(word, Demand::new(kw.value()))
 }
 
 impl<'a> Line<'a> {
@@ -161,7 +58,7 @@ impl<'a> Line<'a> {
 
     fn numeral(&self, at: usize, part: Part, places: usize) -> Result<Numeral, WordFault>
         requires { places ≤ 3 }
-        ensures { read_number result ≡ then (number_at places (words_in self.now) at part) (λ n. Ok (capped n)) }
+        ensures { read_number result ≡ result_and_then (number_at places (words_in self.now) at part) (λ n. Ok (capped n)) }
     {
         Numeral::read(self.word(at, part)?, places).ok_or(expected(at, part))
     }
@@ -202,11 +99,7 @@ impl<'a> Line<'a> {
         ensures reads { result ≡ range_line (words_in self.now) }
         ensures within { IfOk result (λ r. (r.first ≤ r.last) × (r.last < SLOTS)) }
     {
-        let word = self.word(0, Part::Slots)?;
-        match product_named(word) {
-            Some(product) => Ok(Range::one(product.slot())),
-            None => numbered(word),
-        }
+        Range::of(self.word(0, Part::Slots)?)
     }
 
     fn demand(&self, at: usize) -> Result<Demand, WordFault>

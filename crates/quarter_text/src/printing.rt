@@ -4,8 +4,8 @@ ghost use Rattle.std.specs.String.{string_bytes};
 ghost use Rattle.quarter_text.specs.Texts.{ends_run, head_text, price_text, same_slot, shown_run, slots_text, text_of, told_text};
 ghost use Rattle.quarter_text.specs.Trips.{ReadsBack, SameSheet};
 
-use crate::line::Range;
 use crate::product::product_word;
+use crate::range::Range;
 use source::price_source::PriceSource;
 use source::product::{CYCLES, Product};
 use source::slot::{SLOTS, Slot};

@@ -9,13 +9,13 @@ use units::zone_net::ZoneNet;
 
 /// The zone net, the avoided value, and each slot that the text names.
 #[derive(Clone, Copy)]
-pub struct Quarter {
+pub struct TextQuarter {
     pub(crate) zone_net: ZoneNet,
     pub(crate) avoided: Option<Price>,
     pub(crate) named: [Option<Slot>; SLOTS],
 }
 
-impl PriceSource for Quarter {
+impl PriceSource for TextQuarter {
     ghost use Rattle.quarter_text.specs.Quarters.{meaning_of};
 
     ghost means = { meaning_of };

@@ -1,12 +1,13 @@
 // Reading a quarter from plain text.
 ghost use Rattle.quarter_text.specs.Drafts.{in_line, quarter_of, with_line};
-ghost use Rattle.quarter_text.specs.Reading.{ReadAs, TakenAs};
+ghost use Rattle.quarter_text.specs.Reading.{ReadAs};
+ghost use Rattle.quarter_text.specs.Steps.{TakenAs};
 ghost use Rattle.quarter_text.specs.Words.{words_of};
 
 use crate::draft::Draft;
 use crate::fault::ReadFault;
 use crate::line::Line;
-use crate::quarter::Quarter;
+use crate::quarter::TextQuarter;
 use crate::words::{lines_of, words_of};
 use std::alloc::Global;
 
@@ -24,7 +25,7 @@ fn take_line(heap: Global, draft: &mut Draft, line: usize, bytes: &[u8]) -> Resu
 
 /// The quarter that a text of any bytes tells, or its first fault; else memory was wanting, which says nothing of
 /// the text. Nothing else refuses it.
-pub fn read_quarter(heap: Global, text: &[u8]) -> Result<Quarter, ReadFault>
+pub fn read_quarter(heap: Global, text: &[u8]) -> Result<TextQuarter, ReadFault>
     ensures quarter_or_first_fault_or_memory { ReadAs (quarter_of text.now) result }
 {
     let mut draft = Draft::blank();

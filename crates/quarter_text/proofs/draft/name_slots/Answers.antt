@@ -1,5 +1,5 @@
 use Rattle.std.proofs.Common.{◌+◌, ◌-◌, sym, ap, ◌∙◌, arith}
-use Rattle.quarter_text.specs.Drafts.{left}
+use Rattle.quarter_text.specs.Steps.{left}
 use Rattle.quarter_text.proofs.Named.{named_twice}
 use Rattle.quarter_text.proofs.draft.name_slots.Goals as goal
 

@@ -1,6 +1,6 @@
 use Rattle.std.proofs.Common.{◌≡◌, ◌-◌, ◌*◌, ◌≤◌}
-use Rattle.quarter_text.specs.Lines.{weights}
-use Rattle.quarter_text.proofs.line.Range.weight.Given as goal
+use Rattle.quarter_text.specs.Ranges.{weights}
+use Rattle.quarter_text.proofs.range.Range.weight.Given as goal
 
 abbrev pub invariant-loop-slot : goal.invariant-loop-slot
 invariant-loop-slot l =

@@ -1,0 +1,31 @@
+// Energy over slots, as the power in each of them.
+ghost use Rattle.std.specs.Prelude.{◌≡◌, ◌*◌, ◌≤◌};
+ghost use Rattle.quarter_text.specs.Lines.{power};
+ghost use Rattle.quarter_text.specs.Numerals.{number_of};
+
+use crate::fault::{Problem, WordFault, at_word, in_bounds};
+use crate::numeral::Numeral;
+use source::product::CYCLES;
+use source::slot::SLOTS;
+use units::bounds::OutOfBounds;
+use units::demand::Demand;
+use units::quantity::Quantity;
+
+// Energy over slots of this weight in all, as the demand in each of them.
+pub(crate) fn power(word: usize, weight: u64, energy: Numeral) -> Result<Demand, WordFault>
+    requires { (1 ≤ weight) × (weight ≤ SLOTS * CYCLES) }
+    ensures { result ≡ power word weight (number_of energy) }
+{
+    let size = energy.size * 900;
+    if size > 10_000_000 * weight {
+        return at_word(word, Problem::Bounds(OutOfBounds::Demand));
+    }
+    if size % weight != 0 {
+        return at_word(word, Problem::NotWholeKw);
+    }
+    let kw = Numeral {
+        size: size / weight,
+        negative: energy.negative,
+    };
+    in_bounds(word, Demand::new(kw.value()))
+}
