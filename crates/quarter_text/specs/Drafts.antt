@@ -1,5 +1,5 @@
 -- A quarter, read line by line.
-use Rattle.std.specs.Prelude.{ℕ, zero, suc, ◌+◌, ◌-◌, List, [], ◌∷◌, length, replicate, is_some, Some, None, Ok, Err, Option, Result, slice_index_or, slice_set, if◌then◌else◌}
+use Rattle.std.specs.Prelude.{ℕ, zero, suc, ◌+◌, ◌-◌, List, [], ◌∷◌, length, replicate, is_some, Some, None, Ok, Option, Result, slice_index_or, slice_set, if◌then◌else◌}
 use Rattle.units.specs.Chains.{result_and_then, result_map_err}
 use Rattle.source.specs.Slots.{Slot}
 use Rattle.source.specs.declared.slot.TheConstants.{SLOTS}
