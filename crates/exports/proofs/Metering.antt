@@ -4,15 +4,17 @@ use borrow.Author.Differences.{ints}
 use Rattle.std.proofs.lemmas.Bool.{cases_eq, le-leb}
 use Rattle.metering.specs.Imbalances.{Values, balanced, imbalance, in_bounds, metering_fault, unless_fault}
 use Rattle.metering.specs.declared.imbalance.Imbalance.{Imbalance}
-use Rattle.settlement.specs.Books.{Metered, SameCounts, imbalance_at, in_book, payments_in, quarter_at, volumes_in, volumes_of}
-use Rattle.settlement.specs.Events.{metered}
-use Rattle.settlement.specs.Known.{Known, volume_fault}
-use Rattle.settlement.specs.Quarters.{is_closed}
-use Rattle.settlement.specs.Runs.{Whole}
+use Rattle.settlement.specs.Answers.{metering_call_fault}
+use Rattle.settlement.specs.Books.{imbalance_at, imbalances_in, imbalances_of, in_book, payments_in, quarter_at}
+use Rattle.settlement.specs.Changes.{Metered, SameCounts}
+use Rattle.settlement.specs.Events.{metering}
+use Rattle.settlement.specs.Known.{Known}
+use Rattle.settlement.specs.Promises.{IsSoundCall}
+use Rattle.settlement.specs.Standings.{is_closed}
 use Rattle.settlement.specs.declared.book.Book.{Book}
 use Rattle.settlement.specs.declared.fault.BookFault.{BookFault}
 use Rattle.settlement.proofs.Checks.{never, party_within, period_within}
-use Rattle.settlement.proofs.Readings.{row_placed, volume_placed}
+use Rattle.settlement.proofs.Readings.{row_placed, imbalance_placed}
 use Rattle.exports.specs.BenchDays.{meter_values}
 use Rattle.settlement.proofs.Kept.{written}
 
@@ -28,7 +30,7 @@ passed p q late lp lq ll =
     let e = within (pos q -ℤ pos 16) (omega (arith, ints)) in
     simp (a, b, c, d, e)
 
-no_fault : (k : Known) (p q : ℕ) (v : Values) → p < k.periods → q < k.parties → is_closed (k.quarter p) ≡ false → metering_fault v ≡ None → volume_fault k p q v ≡ None
+no_fault : (k : Known) (p q : ℕ) (v : Values) → p < k.periods → q < k.parties → is_closed (k.quarter p) ≡ false → metering_fault v ≡ None → metering_call_fault k p q v ≡ None
 no_fault k p q v lp lq c m = simp (period_within k p lp, party_within k q lq, c, m)
 
 -- b' is b, but that the imbalance of the party q in p is of z kWh
@@ -41,35 +43,35 @@ pub record Took (b b' : Book) (p q : ℕ) (z : ℤ) : Type 0 where
 
 took_as : (b b' : Book) (p q : ℕ) (i : Imbalance) (z : ℤ) → p < b.period_count → q < b.party_count → i.kwh ≡ z → Metered b b' p q i → Took b b' p q z
 took_as b b' p q i z lp lq e f =
-    let rows : q < length (volumes_in b) = row_placed b q lq in
-    let places : p < length (volumes_of b q) = volume_placed b p q lp lq in
+    let rows : q < length (imbalances_in b) = row_placed b q lq in
+    let places : p < length (imbalances_of b q) = imbalance_placed b p q lp lq in
     record {
       counts = f.counts;
       quarters = f.quarters;
       paid = f.paid;
       here =
-          rw f.volumes (written (volumes_in b) q q (set (volumes_of b q) p i) [] (λ row. (get_or row p balanced).kwh ≡ z) rows
-          (λ s. written (volumes_of b q) p p i balanced (λ y. y.kwh ≡ z) places (λ t. e) (λ d. absurd (d refl)))
+          rw f.imbalances (written (imbalances_in b) q q (set (imbalances_of b q) p i) [] (λ row. (get_or row p balanced).kwh ≡ z) rows
+          (λ s. written (imbalances_of b q) p p i balanced (λ y. y.kwh ≡ z) places (λ t. e) (λ d. absurd (d refl)))
           (λ d. absurd (d refl)));
       others = λ p' q' d.
-          rw f.volumes (written (volumes_in b) q q' (set (volumes_of b q) p i) [] (λ row. (get_or row p' balanced).kwh ≡ (imbalance_at b p' q').kwh) rows
-          (λ s. written (volumes_of b q) p p' i balanced (λ y. y.kwh ≡ (imbalance_at b p' q').kwh) places
+          rw f.imbalances (written (imbalances_in b) q q' (set (imbalances_of b q) p i) [] (λ row. (get_or row p' balanced).kwh ≡ (imbalance_at b p' q').kwh) rows
+          (λ s. written (imbalances_of b q) p p' i balanced (λ y. y.kwh ≡ (imbalance_at b p' q').kwh) places
           (λ t. absurd (d t s))
           (λ n. ap (λ w. (imbalance_at b p' w).kwh) s))
           (λ n. refl));
     }
 
-answered : (b b' : Book) (p q : ℕ) (v : Values) (a : Result Imbalance BookFault) → p < b.period_count → q < b.party_count → volume_fault (in_book b) p q v ≡ None → Whole (metered p q v a) b b' → Took b b' p q (imbalance v)
+answered : (b b' : Book) (p q : ℕ) (v : Values) (a : Result Imbalance BookFault) → p < b.period_count → q < b.party_count → metering_call_fault (in_book b) p q v ≡ None → IsSoundCall (metering p q v a) b b' → Took b b' p q (imbalance v)
 answered b b' p q v (Ok i) lp lq n w =
-    let e : Ok i.kwh ≡ unless_fault (volume_fault (in_book b) p q v) (imbalance v) = w.did.answered in
+    let e : Ok i.kwh ≡ unless_fault (metering_call_fault (in_book b) p q v) (imbalance v) = w.did.answered in
     let s : Ok i.kwh ≡ unless_fault {F = BookFault} None (imbalance v) = e ∙ ap (λ o. unless_fault o (imbalance v)) n in
     took_as b b' p q i (imbalance v) lp lq (cc) w.did.changes
 answered b b' p q v (Err f) lp lq n w =
-    let e : Err f ≡ unless_fault (volume_fault (in_book b) p q v) (imbalance v) = w.did.answered in
+    let e : Err f ≡ unless_fault (metering_call_fault (in_book b) p q v) (imbalance v) = w.did.answered in
     never (imbalance v) f (sym (e ∙ ap (λ o. unless_fault o (imbalance v)) n))
 
 -- the values of the day are taken where the book has the period and the party, and the quarter is not closed
-pub took : (b b' : Book) (p q : ℕ) (late : ℤ) (a : Result Imbalance BookFault) → p < b.period_count → q < b.party_count → nat_abs late ≤ 1_000 → is_closed (quarter_at b p) ≡ false → Whole (metered p q (meter_values p q late) a) b b' → Took b b' p q (imbalance (meter_values p q late))
+pub took : (b b' : Book) (p q : ℕ) (late : ℤ) (a : Result Imbalance BookFault) → p < b.period_count → q < b.party_count → nat_abs late ≤ 1_000 → is_closed (quarter_at b p) ≡ false → IsSoundCall (metering p q (meter_values p q late) a) b b' → Took b b' p q (imbalance (meter_values p q late))
 took b b' p q late a lp lq ll c w =
     answered b b' p q (meter_values p q late) a lp lq
     (no_fault (in_book b) p q (meter_values p q late) lp lq c (passed p q late (omega (arith, lp, b.counts.1)) (omega (arith, lq, b.counts.3)) ll))

@@ -12,11 +12,12 @@ use Rattle.pricing.specs.Quotes.{Answer, IsQuoteOfSource as Quoted}
 use Rattle.pricing.specs.Rulings.{finnish}
 use Rattle.pricing.specs.declared.fault.QuoteFault.{QuoteFault}
 use Rattle.pricing.specs.declared.ruling.Net.{Net}
-use Rattle.settlement.specs.Books.{Filed, Fresh, SameCounts, in_book, quarter_at}
-use Rattle.settlement.specs.Events.{Rules, priced}
-use Rattle.settlement.specs.Known.{Known, pricing_fault}
-use Rattle.settlement.specs.Quarters.{filing}
-use Rattle.settlement.specs.Runs.{PricedAs, QuotedAt, Whole}
+use Rattle.settlement.specs.Answers.{IsPricingAnswer, QuotedAt, Rules, pricing_answer, pricing_fault}
+use Rattle.settlement.specs.Books.{IsFresh, in_book, quarter_at}
+use Rattle.settlement.specs.Changes.{Filed, SameCounts}
+use Rattle.settlement.specs.Events.{pricing}
+use Rattle.settlement.specs.Known.{Known}
+use Rattle.settlement.specs.Promises.{IsSoundCall}
 use Rattle.settlement.specs.declared.book.Book.{Book}
 use Rattle.settlement.specs.declared.fault.BookFault.{BookFault}
 use Rattle.settlement.specs.declared.quarter.Quarter.{Quarter}
@@ -56,11 +57,11 @@ pub record PricedOne (b b' : Book) (i : ℕ) (s : List ℕ) (x : Result Quarter 
 no_fault : (k : Known) (i : ℕ) → i < k.periods → k.quarter i ≡ Blank → pricing_fault k i ≡ None
 no_fault k i l e = simp (period_within k i l, e)
 
-refused_by : (i : ℕ) (m : Meaning) (r : Rules) (f : BookFault) (a : Answer) → Quoted m r.code r.ruling a → Err f ≡ filing i a → (g : QuoteFault) × Quoted m r.code r.ruling (Err g)
+refused_by : (i : ℕ) (m : Meaning) (r : Rules) (f : BookFault) (a : Answer) → Quoted m r.code r.ruling a → Err f ≡ pricing_answer i a → (g : QuoteFault) × Quoted m r.code r.ruling (Err g)
 refused_by i m r f (Ok q) h e = never (Priced q) f (sym e)
 refused_by i m r f (Err g) h e = (g, h)
 
-pub priced_one : (b b' : Book) (i : ℕ) (s : List ℕ) (n : Net) (x : Result Quarter BookFault) → i < b.period_count → quarter_at b i ≡ Blank → Whole (priced i (sheet_meaning s) (by_finnish n) x) b b' → PricedOne b b' i s x
+pub priced_one : (b b' : Book) (i : ℕ) (s : List ℕ) (n : Net) (x : Result Quarter BookFault) → i < b.period_count → quarter_at b i ≡ Blank → IsSoundCall (pricing i (sheet_meaning s) (by_finnish n) x) b b' → PricedOne b b' i s x
 priced_one b b' i s n (Ok x) l e w =
     let a = pricing_accepted (in_book b) i (sheet_meaning s) (by_finnish n) x w.did.answered in
     let f : Filed b b' i x = w.did.changes in
@@ -78,7 +79,7 @@ priced_one b b' i s n (Ok x) l e w =
     }
 priced_one b b' i s n (Err f) l e w =
     let same : b' ≡ b = w.did.changes in
-    let g : QuotedAt i (sheet_meaning s) (by_finnish n) (Err f) = subst (λ o. PricedAs o i (sheet_meaning s) (by_finnish n) (Err f)) (no_fault (in_book b) i l e) w.did.answered in
+    let g : QuotedAt i (sheet_meaning s) (by_finnish n) (Err f) = subst (λ o. IsPricingAnswer o i (sheet_meaning s) (by_finnish n) (Err f)) (no_fault (in_book b) i l e) w.did.answered in
     rw same (record {
       parties = refl;
       counts = (refl, refl);
@@ -121,7 +122,7 @@ one_more sheets ends k b b' i n m start end x a c t o = record {
 no_prices : (n : ℕ) → count_by has_price (replicate n Blank) ≡ 0
 no_prices n = omega (arith, sum_by-replicate (λ y. cond (has_price y) 1 0) n Blank)
 
-pub none_priced : (sheets ends : List ℕ) (b : Book) → Fresh b → b.period_count ≡ length ends → PricedTo sheets ends b b 0 0 0
+pub none_priced : (sheets ends : List ℕ) (b : Book) → IsFresh b → b.period_count ≡ length ends → PricedTo sheets ends b b 0 0 0
 none_priced sheets ends b f e =
     let blank : (p : ℕ) → quarter_at b p ≡ Blank = λ p. rw f.blank (all_same 100 p Blank) in
     record {

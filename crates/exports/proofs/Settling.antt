@@ -6,11 +6,12 @@ use Rattle.std.proofs.lemmas.List.FromFn.{fill_by_all}
 use Rattle.metering.proofs.Positions.{passed}
 use Rattle.metering.specs.Imbalances.{unless_fault}
 use Rattle.units.specs.declared.euros.Amount.{Amount}
-use Rattle.settlement.specs.Books.{Paid, SameCounts, in_book, paid_to, payments_in, volumes_in}
-use Rattle.settlement.specs.Events.{settled}
-use Rattle.settlement.specs.Known.{party_fault, payable}
-use Rattle.settlement.specs.Payments.{nothing}
-use Rattle.settlement.specs.Runs.{Whole}
+use Rattle.settlement.specs.Answers.{party_fault}
+use Rattle.settlement.specs.Books.{imbalances_in, in_book, paid_to, payments_in}
+use Rattle.settlement.specs.Changes.{Paid, SameCounts}
+use Rattle.settlement.specs.Events.{settling}
+use Rattle.settlement.specs.Known.{nothing, payable}
+use Rattle.settlement.specs.Promises.{IsSoundCall}
 use Rattle.settlement.specs.declared.book.Book.{Book}
 use Rattle.settlement.specs.declared.fault.BookFault.{BookFault}
 use Rattle.settlement.proofs.Checks.{never, party_known, party_within}
@@ -22,29 +23,29 @@ use Rattle.settlement.proofs.Kept.{written}
 pub record SettledTo (k b : Book) (before after : List ℤ) (i : ℕ) : Type 0 where
   pub counts : SameCounts k b
   pub quarters : b.quarters ≡ k.quarters
-  pub volumes : volumes_in b ≡ volumes_in k
+  pub imbalances : imbalances_in b ≡ imbalances_in k
   pub paid : (q : ℕ) → q < i → q < k.party_count → (paid_to b q).cents ≡ (paid_to k q).cents +ℤ payable (in_book k) q
   pub unpaid : (q : ℕ) → i ≤ q → paid_to b q ≡ paid_to k q
   pub length : length after ≡ length before
   pub places : (q : ℕ) → q < i → get_or after q (pos 0) ≡ cond (ltb q (k.party_count)) (payable (in_book k) q) (get_or before q (pos 0))
   pub others : (q : ℕ) → i ≤ q → get_or after q (pos 0) ≡ get_or before q (pos 0)
 
--- what a book owes hangs on its periods, quarters, volumes and payments
-same_payable : (k b : Book) (q : ℕ) → b.period_count ≡ k.period_count → b.quarters ≡ k.quarters → volumes_in b ≡ volumes_in k → paid_to b q ≡ paid_to k q → payable (in_book b) q ≡ payable (in_book k) q
+-- what a book owes hangs on its periods, quarters, imbalances and payments
+same_payable : (k b : Book) (q : ℕ) → b.period_count ≡ k.period_count → b.quarters ≡ k.quarters → imbalances_in b ≡ imbalances_in k → paid_to b q ≡ paid_to k q → payable (in_book b) q ≡ payable (in_book k) q
 same_payable k b q n e f g = simp (n, e, f, g)
 
-pub accepted : (k b b' : Book) (before after : List ℤ) (i : ℕ) (x : Amount) → i < length before → SettledTo k b before after i → Whole (settled i (Ok x)) b b' → SettledTo k b' before (set after i x.cents) (i + 1)
+pub accepted : (k b b' : Book) (before after : List ℤ) (i : ℕ) (x : Amount) → i < length before → SettledTo k b before after i → IsSoundCall (settling i (Ok x)) b b' → SettledTo k b' before (set after i x.cents) (i + 1)
 accepted k b b' before after i x l s w =
     let f : Paid b b' i (record { cents = (paid_to b i).cents +ℤ x.cents }) = w.did.changes in
     let a = passed (party_fault (in_book b) i) (payable (in_book b) i) x.cents w.did.answered in
     let has : i < b.party_count = party_known (in_book b) i a.0 in
-    let due : x.cents ≡ payable (in_book k) i = a.1 ∙ same_payable k b i s.counts.0 s.quarters s.volumes (s.unpaid i (omega arith)) in
+    let due : x.cents ≡ payable (in_book k) i = a.1 ∙ same_payable k b i s.counts.0 s.quarters s.imbalances (s.unpaid i (omega arith)) in
     let place : i < length (payments_in b) = amount_placed b i has in
     let within : i < length after = omega (arith, s.length) in
     record {
       counts = (f.counts.0 ∙ s.counts.0, f.counts.1 ∙ s.counts.1);
       quarters = f.quarters ∙ s.quarters;
-      volumes = f.volumes ∙ s.volumes;
+      imbalances = f.imbalances ∙ s.imbalances;
       paid = λ q h m.
           rw f.paid (written (payments_in b) i q (record { cents = (paid_to b i).cents +ℤ x.cents }) nothing (λ y. y.cents ≡ (paid_to k q).cents +ℤ payable (in_book k) q) place
           (λ e. subst (λ n. (paid_to b i).cents +ℤ x.cents ≡ (paid_to k n).cents +ℤ payable (in_book k) n) e (rw (s.unpaid i (omega arith), due) refl))
@@ -66,7 +67,7 @@ past b q f e =
     (λ (l : b.party_count ≤ q). l)
     (cases_lt q (b.party_count))
 
-pub refused : (k b b' : Book) (before after : List ℤ) (i : ℕ) (f : BookFault) → SettledTo k b before after i → Whole (settled i (Err f)) b b' → SettledTo k b' before after (i + 1)
+pub refused : (k b b' : Book) (before after : List ℤ) (i : ℕ) (f : BookFault) → SettledTo k b before after i → IsSoundCall (settling i (Err f)) b b' → SettledTo k b' before after (i + 1)
 refused k b b' before after i f s w =
     let l = past b i f w.did.answered in
     let same : b' ≡ b = w.did.changes in
@@ -74,7 +75,7 @@ refused k b b' before after i f s w =
     (record {
       counts = s.counts;
       quarters = s.quarters;
-      volumes = s.volumes;
+      imbalances = s.imbalances;
       paid = λ q h m. s.paid q (omega (arith, s.counts.1)) m;
       unpaid = λ q h. s.unpaid q (omega arith);
       length = s.length;

@@ -6,8 +6,8 @@ use Rattle.pricing.specs.Quotes.{IsQuoteOfSource as Quoted}
 use Rattle.pricing.specs.Rulings.{finnish}
 use Rattle.pricing.specs.declared.fault.QuoteFault.{QuoteFault}
 use Rattle.settlement.specs.Known.{Known, payable}
-use Rattle.settlement.specs.Quarters.{quote_in}
 use Rattle.settlement.specs.Refusals.{count_number, count_place}
+use Rattle.settlement.specs.Standings.{quote_in}
 use Rattle.settlement.specs.declared.fault.CountFault.{CountFault}
 use Rattle.settlement.specs.declared.book.Book.{Book}
 use Rattle.settlement.specs.declared.quarter.Quarter.{Quarter}
@@ -40,7 +40,7 @@ pub record QuartersOf (sheets ends : List ℕ) (quarters : List Quarter) : Type 
 abbrev pub has_price : Quarter → Bool
 has_price x = is_some (quote_in x)
 
--- VOLUMES
+-- IMBALANCES
 
 -- what is metered of a party in a period, with kWh that come late: numbers made up for the bench
 abbrev pub meter_values : ℕ → ℕ → ℤ → Values
@@ -52,15 +52,15 @@ meter_values p q late = record {
 
 -- nothing is metered and nothing paid
 abbrev pub unmetered : ℕ → List Quarter → Known
-unmetered m quarters = record { periods = length quarters; parties = m; quarter = λ p. slice_index_or quarters p Blank; volume = λ p q. pos 0; paid = λ q. pos 0 }
+unmetered m quarters = record { periods = length quarters; parties = m; quarter = λ p. slice_index_or quarters p Blank; imbalance = λ p q. pos 0; paid = λ q. pos 0 }
 
 -- each party is metered in each period
 abbrev pub metered_all : Known → Known
-metered_all k = record k { volume = λ p q. imbalance (meter_values p q (pos 0)) }
+metered_all k = record k { imbalance = λ p q. imbalance (meter_values p q (pos 0)) }
 
 -- party 0 is metered again in the last period, with 65 kWh more
 abbrev pub metered_late : Known → Known
-metered_late k = record k { volume = λ p q. cond ((suc p == k.periods) && (q == 0)) (imbalance (meter_values p q (pos 65))) (k.volume p q) }
+metered_late k = record k { imbalance = λ p q. cond ((suc p == k.periods) && (q == 0)) (imbalance (meter_values p q (pos 65))) (k.imbalance p q) }
 
 -- PAYMENTS
 
@@ -108,9 +108,9 @@ abbrev pub quarters_in : Book → List Quarter
 quarters_in b = take b.period_count b.quarters
 
 -- what is known of two settlements is the same
-pub record Alike (k k' : Known) : Type 0 where
+pub record IsSameKnown (k k' : Known) : Type 0 where
   pub periods : k.periods ≡ k'.periods
   pub parties : k.parties ≡ k'.parties
   pub quarter : (p : ℕ) → p < k'.periods → k.quarter p ≡ k'.quarter p
-  pub volume : (p q : ℕ) → p < k'.periods → q < k'.parties → k.volume p q ≡ k'.volume p q
+  pub imbalance : (p q : ℕ) → p < k'.periods → q < k'.parties → k.imbalance p q ≡ k'.imbalance p q
   pub paid : (q : ℕ) → q < k'.parties → k.paid q ≡ k'.paid q

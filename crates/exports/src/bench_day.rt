@@ -1,11 +1,13 @@
 // A day in the book, to measure what a day costs: quarters priced from their sheets, parties metered with values that
 // are made up here, settled, one late value, and settled again.
 ghost use Rattle.std.specs.Prelude.{◌≡◌, ℕ, ◌<◌, ◌≤◌, false, count_by, length, unsigned_abs};
-ghost use Rattle.exports.specs.BenchDays.{Alike, Buffers, DayOf, QuartersOf, has_price, meter_values, metered_all, not_started, payments_over, quarters_in, settled_first};
-ghost use Rattle.settlement.specs.Books.{Fresh, SameCounts, in_book, quarter_at};
-ghost use Rattle.settlement.specs.Events.{metered};
-ghost use Rattle.settlement.specs.Quarters.{is_closed};
-ghost use Rattle.settlement.specs.Runs.{Whole, count_fault};
+ghost use Rattle.exports.specs.BenchDays.{Buffers, DayOf, IsSameKnown, QuartersOf, has_price, meter_values, metered_all, not_started, payments_over, quarters_in, settled_first};
+ghost use Rattle.settlement.specs.Books.{IsFresh, in_book, quarter_at};
+ghost use Rattle.settlement.specs.Changes.{SameCounts};
+ghost use Rattle.settlement.specs.Events.{metering};
+ghost use Rattle.settlement.specs.Promises.{IsSoundCall};
+ghost use Rattle.settlement.specs.Standings.{is_closed};
+ghost use Rattle.settlement.specs.Starting.{count_fault};
 
 use crate::plain::PlainDay;
 use metering::imbalance::Imbalance;
@@ -20,7 +22,7 @@ use units::refusal::Refusal;
 // Prices each quarter from its own sheet, from no bytes where its places are none of the sheets', and answers how many
 // have a price.
 fn price_all(book: &mut Book, sheets: &[u8], ends: &[usize]) -> usize
-    requires fresh { Fresh book.old }
+    requires fresh { IsFresh book.old }
     requires count { book.old.period_count ≡ length ends.now }
     ensures quarters { QuartersOf sheets.now ends.now (quarters_in book.new) }
     ensures parties { book.new.parties ≡ book.old.parties }
@@ -44,7 +46,7 @@ fn meter(book: &mut Book, period: usize, party: usize, late: i64) -> Result<Imba
     requires period { period < 100 }
     requires party { party < 32 }
     requires late { unsigned_abs late ≤ 1_000 }
-    ensures { Whole (metered period party (meter_values period party late) result) book.old book.new }
+    ensures { IsSoundCall (metering period party (meter_values period party late) result) book.old book.new }
 {
     let (p, q) = (period as i64, party as i64);
     let values = MeterValues {
@@ -59,7 +61,7 @@ fn meter_all(book: &mut Book, periods: usize, parties: usize)
     requires periods { book.old.period_count ≡ periods }
     requires parties { book.old.party_count ≡ parties }
     requires open { (p : ℕ) → p < book.old.period_count → is_closed (quarter_at book.old p) ≡ false }
-    ensures { Alike (in_book book.new) (metered_all (in_book book.old)) }
+    ensures { IsSameKnown (in_book book.new) (metered_all (in_book book.old)) }
 {
     for period in 0..periods {
         for party in 0..parties {
@@ -71,7 +73,7 @@ fn meter_all(book: &mut Book, periods: usize, parties: usize)
 // Settles each party that has a place for its payment.
 fn settle_all(book: &mut Book, payments: &mut [i64])
     ensures payments { payments.new ≡ payments_over (in_book book.old) payments.old }
-    ensures book { Alike (in_book book.new) (settled_first (length payments.old) (in_book book.old)) }
+    ensures book { IsSameKnown (in_book book.new) (settled_first (length payments.old) (in_book book.old)) }
 {
     for (party, payment) in payments.iter_mut().enumerate() {
         if let Ok(paid) = book.settle(party) {

@@ -17,7 +17,7 @@ enum Quarter {
 /// The kWh of a party in each quarter, and the cents that it was paid.
 #[derive(Clone, Copy)]
 struct Party {
-    volumes: [i64; PERIODS],
+    imbalances: [i64; PERIODS],
     paid: i64,
 }
 
@@ -37,9 +37,9 @@ impl Quarter {
 }
 
 impl Party {
-    // What the volumes are worth at the standing prices, in thousandths of a cent.
-    fn worth(&self, quarters: &[Quarter; PERIODS]) -> i128 {
-        let both = quarters.iter().zip(self.volumes.iter());
+    // The imbalances at the standing prices, in thousandths of a cent.
+    fn imbalance_amount(&self, quarters: &[Quarter; PERIODS]) -> i128 {
+        let both = quarters.iter().zip(self.imbalances.iter());
         both.fold(0i128, |sum, (quarter, kwh)| {
             let product = i128::from(quarter.cents()).saturating_mul(i128::from(*kwh));
             sum.saturating_add(product)
@@ -52,7 +52,7 @@ impl Ledger {
         Ledger {
             quarters: [Quarter::Blank; PERIODS],
             parties: [Party {
-                volumes: [0; PERIODS],
+                imbalances: [0; PERIODS],
                 paid: 0,
             }; PARTIES],
         }
@@ -73,7 +73,7 @@ impl Ledger {
         Ok(cents)
     }
 
-    /// Notes a volume. A party out of range is refused before a closed quarter.
+    /// Notes an imbalance. A party out of range is refused before a closed quarter.
     pub(crate) fn meter(&mut self, period: usize, party: usize, kwh: i64) -> Result<i64, Fault> {
         let beyond = Refusal::PeriodOutOfRange.at(period);
         let quarter = self.quarters.get(period).ok_or(beyond)?;
@@ -82,7 +82,7 @@ impl Ledger {
         if matches!(quarter, Quarter::Closed(_)) {
             return Err(Refusal::QuarterClosed.at(period));
         }
-        found.volumes[period] = kwh;
+        found.imbalances[period] = kwh;
         Ok(kwh)
     }
 
@@ -101,11 +101,11 @@ impl Ledger {
         let Some(found) = self.parties.get_mut(party) else {
             return Err(Refusal::PartyOutOfRange.at(party));
         };
-        let worth = Fraction {
-            n: found.worth(&self.quarters),
+        let thousandths = Fraction {
+            n: found.imbalance_amount(&self.quarters),
             d: 1_000,
         };
-        let due = worth.nearest();
+        let due = thousandths.nearest();
         let before = found.paid;
         found.paid = due;
         Ok(due.saturating_sub(before))

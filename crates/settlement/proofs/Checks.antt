@@ -5,10 +5,9 @@ use Rattle.metering.specs.Imbalances.{or_next, unless}
 use Rattle.pricing.specs.Quotes.{Answer, IsQuoteOfSource as Quoted}
 use Rattle.pricing.specs.declared.quote.Quote.{Quote}
 use Rattle.source.specs.Meanings.{Meaning}
-use Rattle.settlement.specs.Events.{Rules}
-use Rattle.settlement.specs.Known.{Known, closed_fault, party_fault, period_fault, pricing_fault, unless_refused}
-use Rattle.settlement.specs.Quarters.{closing, filing, is_closed}
-use Rattle.settlement.specs.Runs.{PricedAs, QuotedAt}
+use Rattle.settlement.specs.Answers.{IsPricingAnswer, QuotedAt, Rules, closed_fault, closing_answer, party_fault, period_fault, pricing_answer, pricing_fault, unless_refused}
+use Rattle.settlement.specs.Known.{Known}
+use Rattle.settlement.specs.Standings.{is_closed}
 use Rattle.settlement.specs.declared.fault.BookFault.{BookFault}
 use Rattle.settlement.specs.declared.fault.BookFault.TheVariants.{PeriodOutOfRange, PartyOutOfRange}
 use Rattle.settlement.specs.declared.quarter.Quarter.{Quarter}
@@ -58,22 +57,22 @@ pub record Accepted (k : Known) (p : ℕ) (m : Meaning) (r : Rules) (x : Quarter
   pub is : x ≡ Priced quote
   pub quoted : Quoted m r.code r.ruling (Ok quote)
 
-quote_of : (p : ℕ) (m : Meaning) (r : Rules) (x : Quarter) (a : Answer) → Quoted m r.code r.ruling a → Ok x ≡ filing p a → (q : Quote) × (x ≡ Priced q) × Quoted m r.code r.ruling (Ok q)
+quote_of : (p : ℕ) (m : Meaning) (r : Rules) (x : Quarter) (a : Answer) → Quoted m r.code r.ruling a → Ok x ≡ pricing_answer p a → (q : Quote) × (x ≡ Priced q) × Quoted m r.code r.ruling (Ok q)
 quote_of p m r x (Ok q) h e = (q, cc, h)
 quote_of p m r x (Err f) h e = never x _ e
 
-pricing_parts : (o : Option BookFault) (p : ℕ) (m : Meaning) (r : Rules) (x : Quarter) → PricedAs o p m r (Ok x) → (o ≡ None) × QuotedAt p m r (Ok x)
+pricing_parts : (o : Option BookFault) (p : ℕ) (m : Meaning) (r : Rules) (x : Quarter) → IsPricingAnswer o p m r (Ok x) → (o ≡ None) × QuotedAt p m r (Ok x)
 pricing_parts None p m r x d = (refl, d)
 pricing_parts (Some f) p m r x e = never x f e
 
-pub pricing_accepted : (k : Known) (p : ℕ) (m : Meaning) (r : Rules) (x : Quarter) → PricedAs (pricing_fault k p) p m r (Ok x) → Accepted k p m r x
+pub pricing_accepted : (k : Known) (p : ℕ) (m : Meaning) (r : Rules) (x : Quarter) → IsPricingAnswer (pricing_fault k p) p m r (Ok x) → Accepted k p m r x
 pricing_accepted k p m r x d =
     let s = pricing_parts (pricing_fault k p) p m r x d in
     let n = or_none (period_fault k p) (closed_fault k p) s.0 in
     let q = quote_of p m r x s.1.quote s.1.quoted s.1.answer in
     record { within = period_known k p n.0; unclosed = open_quarter k p n.1; quote = q.0; is = q.1; quoted = q.2 }
 
-closing_of : (p : ℕ) (y x : Quarter) → Ok x ≡ closing p y → (q : Quote) × (y ≡ Priced q) × (x ≡ Closed q)
+closing_of : (p : ℕ) (y x : Quarter) → Ok x ≡ closing_answer p y → (q : Quote) × (y ≡ Priced q) × (x ≡ Closed q)
 closing_of p Blank x e = never x _ e
 closing_of p (Priced q) x e = (q, refl, cc)
 closing_of p (Closed q) x e = never x _ e
@@ -85,8 +84,8 @@ pub record Shut (k : Known) (p : ℕ) (x : Quarter) : Type 0 where
   pub was : k.quarter p ≡ Priced quote
   pub is : x ≡ Closed quote
 
-pub closing_accepted : (k : Known) (p : ℕ) (x : Quarter) → Ok x ≡ unless_refused (period_fault k p) (closing p (k.quarter p)) → Shut k p x
+pub closing_accepted : (k : Known) (p : ℕ) (x : Quarter) → Ok x ≡ unless_refused (period_fault k p) (closing_answer p (k.quarter p)) → Shut k p x
 closing_accepted k p x e =
-    let s = taken (period_fault k p) (closing p (k.quarter p)) x e in
+    let s = taken (period_fault k p) (closing_answer p (k.quarter p)) x e in
     let q = closing_of p (k.quarter p) x s.1 in
     record { within = period_known k p s.0; quote = q.0; was = q.1; is = q.2 }

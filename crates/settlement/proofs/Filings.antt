@@ -19,9 +19,10 @@ use Rattle.units.proofs.Rounds.{keeps_bounds, nearest_rounded}
 use Rattle.units.specs.Exact.{Exact}
 use Rattle.units.specs.Rounding.{Nearest, rounded}
 use Rattle.units.specs.declared.price.Price.{Price}
-use Rattle.settlement.specs.Events.{Filing, Lawful, Rules}
-use Rattle.settlement.specs.Quarters.{quote_in}
-use Rattle.settlement.specs.Runs.{RightPrice, StandsFor, WithinBounds}
+use Rattle.settlement.specs.Answers.{IsLawfulRulebook, Rules}
+use Rattle.settlement.specs.Promises.{RightPrice, StandsFor, WithinBounds}
+use Rattle.settlement.specs.Runs.{Filing}
+use Rattle.settlement.specs.Standings.{quote_in}
 use Rattle.settlement.specs.declared.quarter.Quarter.{Quarter}
 use Rattle.settlement.specs.declared.quarter.Quarter.TheVariants.{Priced}
 use Rattle.settlement.proofs.Checks.{never}
@@ -68,7 +69,7 @@ by_meaning m f Avoided p g b = tt
 abbrev pub filed : Meaning → Rules → Quarter → Filing
 filed m r x = record { source = m; rules = r; quarter = x }
 
-pub right : (m : Meaning) (r : Rules) (x : Quarter) (q : Quote) → Lawful r → x ≡ Priced q → Quoted m r.code r.ruling (Ok q) → RightPrice (filed m r x) x
+pub right : (m : Meaning) (r : Rules) (x : Quarter) (q : Quote) → IsLawfulRulebook r → x ≡ Priced q → Quoted m r.code r.ruling (Ok q) → RightPrice (filed m r x) x
 right m r x q laws e h = record {
   quote = q;
   filed = ap quote_in e;
@@ -78,7 +79,7 @@ right m r x q laws e h = record {
   stands = stands_for r.code r.net h.figures (r.ruling h.figures) m.avoided q (laws h.figures) h.quotes;
 }
 
-pub within_bounds : (m : Meaning) (r : Rules) (q : Quote) → Lawful r → Quoted m r.code r.ruling (Ok q) → WithinBounds q.direction m q.price.cents
+pub within_bounds : (m : Meaning) (r : Rules) (q : Quote) → IsLawfulRulebook r → Quoted m r.code r.ruling (Ok q) → WithinBounds q.direction m q.price.cents
 within_bounds m r q laws h =
     by_meaning m h.figures q.direction q.price h.gives
     (bounded_by r.code r.net h.figures (r.ruling h.figures) m.avoided q (laws h.figures) h.quotes)

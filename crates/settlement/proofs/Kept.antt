@@ -2,6 +2,7 @@
 use Rattle.std.proofs.Common.{◌≡◌, ℕ, zero, suc, ◌<◌, Bool, true, false, not, ◌&&◌, eqb, ◌≢◌, List, [], ◌∷◌, length, get_or, set, replicate, ℤ, ◌+ℤ◌, ◌-ℤ◌, ◌*ℤ◌, Some, None, Ok, Err, is_some, Option, sym, refl, ap, ◌∙◌, subst, ⊎_elim, arith, get_or-set_other, get_or-set_same}
 use borrow.Author.Differences.{ints}
 use Rattle.std.specs.Option.{option_map}
+use Rattle.std.specs.Prelude.{if◌then◌else◌}
 use Rattle.std.proofs.lemmas.Bool.{eqb-true, eq-eqb, ne_eqb, cases_Bool, cases_eq, and_parts, and_from}
 use Rattle.metering.specs.Imbalances.{Values, balanced, imbalance, kwh_of, metering_fault, or_next, unless, unless_fault}
 use Rattle.metering.proofs.Positions.{passed}
@@ -11,12 +12,14 @@ use Rattle.source.specs.Meanings.{Meaning}
 use Rattle.units.proofs.Rounds.{nearest_rounded}
 use Rattle.units.specs.Rounding.{rounded}
 use Rattle.units.specs.declared.euros.Amount.{Amount}
-use Rattle.settlement.specs.Books.{Filed, Fresh, Metered, Paid, SameCounts, imbalance_at, in_book, paid_to, payments_in, quarter_at, volumes_in, volumes_of}
-use Rattle.settlement.specs.Events.{Event, priced, metered, closed, settled, Filing, Lawful, Rules, after_run, last_pricing, volume_after, payments_since, quarter_after, stands_as, was_closed, when}
-use Rattle.settlement.specs.Known.{party_fault, payable, period_fault, unless_refused, volume_fault, worth}
-use Rattle.settlement.specs.Payments.{nothing}
-use Rattle.settlement.specs.Quarters.{closed_as, closing, is_closed, quote_in, standing_cents}
-use Rattle.settlement.specs.Runs.{AllAnswered, AllFairlyPaid, Answered, Changes, Did, FairlyPaid, PricedAs, RightPrice, Run, begun, after, Sound, Whole, WithinBounds}
+use Rattle.settlement.specs.Answers.{IsLawfulRulebook, IsPricingAnswer, Rules, closing_answer, metering_call_fault, party_fault, period_fault, unless_refused}
+use Rattle.settlement.specs.Books.{IsFresh, imbalance_at, imbalances_in, imbalances_of, in_book, paid_to, payments_in, quarter_at}
+use Rattle.settlement.specs.Changes.{Filed, Metered, Paid, SameCounts}
+use Rattle.settlement.specs.Events.{Answered, Changes, Did, Event, closing, metering, pricing, settling}
+use Rattle.settlement.specs.Known.{imbalance_amount, nothing, payable}
+use Rattle.settlement.specs.Promises.{AllAnswered, AllFairlyPaid, FairlyPaid, IsSoundCall, RightPrice, Sound, WithinBounds}
+use Rattle.settlement.specs.Runs.{Filing, Run, after, after_run, begun, imbalance_after, last_pricing, payments_since, quarter_after, stands_as, was_closed}
+use Rattle.settlement.specs.Standings.{closed_as, is_closed, quote_in, standing_cents}
 use Rattle.settlement.specs.declared.book.Book.{Book}
 use Rattle.settlement.specs.declared.fault.BookFault.TheVariants.{QuarterClosed, Metering}
 use Rattle.settlement.specs.declared.party.Party.{Party}
@@ -25,7 +28,7 @@ use Rattle.settlement.specs.declared.quarter.Quarter.TheVariants.{Blank, Priced,
 use Rattle.settlement.proofs.Checks.{Accepted, Shut, closing_accepted, or_none, party_known, period_known, pricing_accepted}
 use Rattle.settlement.proofs.Filings.{filed, right, within_bounds}
 use Rattle.settlement.proofs.Only.{only}
-use Rattle.settlement.proofs.Readings.{amount_placed, imbalance_of, paid_of, quarter_of, quarter_placed, row_placed, volume_placed}
+use Rattle.settlement.proofs.Readings.{amount_placed, imbalance_of, paid_of, quarter_of, quarter_placed, row_placed, imbalance_placed}
 use Rattle.settlement.proofs.Sums.{sum_same}
 
 abbrev Bounds : Filing → Type 0
@@ -40,7 +43,7 @@ pub record Reached (h : List Event) (b : Book) : Type 0 where
   pub closings : (p : ℕ) → is_closed (quarter_at b p) ≡ was_closed h p
   pub prices : (p : ℕ) (f : Filing) → last_pricing h p ≡ Some f → Right f
   pub bounds : (p : ℕ) (f : Filing) → last_pricing h p ≡ Some f → Bounds f
-  pub volumes : (p q : ℕ) → (imbalance_at b p q).kwh ≡ volume_after h p q
+  pub imbalances : (p q : ℕ) → (imbalance_at b p q).kwh ≡ imbalance_after h p q
   pub payments : (q : ℕ) → (paid_to b q).cents ≡ payments_since h q
 
 -- A PLACE THAT IS WRITTEN, AND THE OTHERS
@@ -67,18 +70,18 @@ quote_same : (p q : Quote) (x : Quarter) → x ≡ Priced p → quote_in x ≡ S
 quote_same p q x e f = let g : quote_in x ≡ Some p = ap quote_in e in cc
 
 -- the last accepted pricing is the new one, or the one before
-last_is : (t : Bool) (o : Option Filing) (f g : Filing) (P : Filing → Type 0) → or_next (when t f) o ≡ Some g → P f → (o ≡ Some g → P g) → P g
+last_is : (t : Bool) (o : Option Filing) (f g : Filing) (P : Filing → Type 0) → or_next (if t then Some f else None) o ≡ Some g → P f → (o ≡ Some g → P g) → P g
 last_is true o f g P e new old = let same : f ≡ g = cc in subst P same new
 last_is false o f g P e new old = old e
 
-priced_run : (h : List Event) (b b' : Book) (p : ℕ) (m : Meaning) (r : Rules) (x : Quarter) → Lawful r → Accepted (in_book b) p m r x → Filed b b' p x → Reached h b → Reached (priced p m r (Ok x) ∷ h) b'
+priced_run : (h : List Event) (b b' : Book) (p : ℕ) (m : Meaning) (r : Rules) (x : Quarter) → IsLawfulRulebook r → Accepted (in_book b) p m r x → Filed b b' p x → Reached h b → Reached (pricing p m r (Ok x) ∷ h) b'
 priced_run h b b' p m r x laws a f k =
     let qs : List Quarter = b.quarters in
     let within : p < length qs = quarter_placed b p a.within in
     let unclosed : was_closed h p ≡ false = sym (k.closings p) ∙ a.unclosed in
     let bounded : Bounds (filed m r x) = λ q e. let same : a.quote ≡ q = quote_same _ _ x a.is e in subst (λ (w : Quote). WithinBounds w.direction m w.price.cents) same (within_bounds m r a.quote laws a.quoted) in
     record {
-      standings = λ p'. rw f.quarters (written qs p p' x Blank (λ y. y ≡ quarter_after (priced p m r (Ok x) ∷ h) p') within
+      standings = λ p'. rw f.quarters (written qs p p' x Blank (λ y. y ≡ quarter_after (pricing p m r (Ok x) ∷ h) p') within
           (λ s. rw (← s, eq-eqb p p refl, unclosed) refl)
           (λ n. rw (ne_eqb p p' n) (k.standings p')));
       closings = λ p'. rw f.quarters (written qs p p' x Blank (λ y. is_closed y ≡ was_closed h p') within
@@ -86,7 +89,7 @@ priced_run h b b' p m r x laws a f k =
           (λ n. k.closings p'));
       prices = λ p' g e. last_is (eqb p p') _ (filed m r x) g Right e (right m r x a.quote laws a.is a.quoted) (k.prices p' g);
       bounds = λ p' g e. last_is (eqb p p') _ (filed m r x) g Bounds e bounded (k.bounds p' g);
-      volumes = λ p' q'. rw f.parties (k.volumes p' q');
+      imbalances = λ p' q'. rw f.parties (k.imbalances p' q');
       payments = λ q'. rw f.parties (k.payments q');
     }
 
@@ -102,48 +105,48 @@ closed_as_lem None c q e = let z : ◌≡◌ {A = ℕ} 0 1 = cc in absurd (omega
 closed_as_lem (Some f) false q e = ap closed_as e
 closed_as_lem (Some f) true q e = absurd (never_priced f.quarter q e)
 
-closed_run : (h : List Event) (b b' : Book) (p : ℕ) (x : Quarter) → Shut (in_book b) p x → Filed b b' p x → Reached h b → Reached (closed p (Ok x) ∷ h) b'
+closed_run : (h : List Event) (b b' : Book) (p : ℕ) (x : Quarter) → Shut (in_book b) p x → Filed b b' p x → Reached h b → Reached (closing p (Ok x) ∷ h) b'
 closed_run h b b' p x a f k =
     let qs : List Quarter = b.quarters in
     let within : p < length qs = quarter_placed b p a.within in
     record {
-      standings = λ p'. rw f.quarters (written qs p p' x Blank (λ y. y ≡ quarter_after (closed p (Ok x) ∷ h) p') within
-          (λ s. subst (λ (w : ℕ). x ≡ quarter_after (closed p (Ok x) ∷ h) w) s
+      standings = λ p'. rw f.quarters (written qs p p' x Blank (λ y. y ≡ quarter_after (closing p (Ok x) ∷ h) p') within
+          (λ s. subst (λ (w : ℕ). x ≡ quarter_after (closing p (Ok x) ∷ h) w) s
           (rw (eq-eqb p p refl) (a.is ∙ closed_as_lem (last_pricing h p) (was_closed h p) a.quote (sym a.was ∙ k.standings p))))
           (λ n. rw (ne_eqb p p' n) (k.standings p')));
-      closings = λ p'. rw f.quarters (written qs p p' x Blank (λ y. is_closed y ≡ was_closed (closed p (Ok x) ∷ h) p') within
+      closings = λ p'. rw f.quarters (written qs p p' x Blank (λ y. is_closed y ≡ was_closed (closing p (Ok x) ∷ h) p') within
           (λ s. rw (← s, eq-eqb p p refl, a.is) refl)
           (λ n. rw (ne_eqb p p' n) (k.closings p')));
       prices = k.prices;
       bounds = k.bounds;
-      volumes = λ p' q'. rw f.parties (k.volumes p' q');
+      imbalances = λ p' q'. rw f.parties (k.imbalances p' q');
       payments = λ q'. rw f.parties (k.payments q');
     }
 
 -- METERING
 
-metered_run : (h : List Event) (b b' : Book) (p q : ℕ) (v : Values) (i : Imbalance) → p < b.period_count → q < b.party_count → i.kwh ≡ imbalance v → Metered b b' p q i → Reached h b → Reached (metered p q v (Ok i) ∷ h) b'
+metered_run : (h : List Event) (b b' : Book) (p q : ℕ) (v : Values) (i : Imbalance) → p < b.period_count → q < b.party_count → i.kwh ≡ imbalance v → Metered b b' p q i → Reached h b → Reached (metering p q v (Ok i) ∷ h) b'
 metered_run h b b' p q v i lp lq e f k =
-    let rows : q < length (volumes_in b) = row_placed b q lq in
-    let places : p < length (volumes_of b q) = volume_placed b p q lp lq in
+    let rows : q < length (imbalances_in b) = row_placed b q lq in
+    let places : p < length (imbalances_of b q) = imbalance_placed b p q lp lq in
     record {
       standings = λ p'. rw f.quarters (k.standings p');
       closings = λ p'. rw f.quarters (k.closings p');
       prices = k.prices;
       bounds = k.bounds;
-      volumes = λ p' q'.
-          let before : (imbalance_at b p' q').kwh ≡ volume_after h p' q' = k.volumes p' q' in
-          rw f.volumes (written (volumes_in b) q q' (set (volumes_of b q) p i) [] (λ row. (get_or row p' balanced).kwh ≡ volume_after (metered p q v (Ok i) ∷ h) p' q') rows
-          (λ s. written (volumes_of b q) p p' i balanced (λ y. y.kwh ≡ volume_after (metered p q v (Ok i) ∷ h) p' q') places
+      imbalances = λ p' q'.
+          let before : (imbalance_at b p' q').kwh ≡ imbalance_after h p' q' = k.imbalances p' q' in
+          rw f.imbalances (written (imbalances_in b) q q' (set (imbalances_of b q) p i) [] (λ row. (get_or row p' balanced).kwh ≡ imbalance_after (metering p q v (Ok i) ∷ h) p' q') rows
+          (λ s. written (imbalances_of b q) p p' i balanced (λ y. y.kwh ≡ imbalance_after (metering p q v (Ok i) ∷ h) p' q') places
           (λ t. rw (and_from _ _ (eq-eqb p p' t) (eq-eqb q q' s)) e)
-          (λ d. rw (apart p q p' q' (λ x y. d x)) (subst (λ (w : ℕ). (imbalance_at b p' w).kwh ≡ volume_after h p' q') (sym s) before)))
+          (λ d. rw (apart p q p' q' (λ x y. d x)) (subst (λ (w : ℕ). (imbalance_at b p' w).kwh ≡ imbalance_after h p' q') (sym s) before)))
           (λ d. rw (apart p q p' q' (λ x y. d y)) before));
       payments = λ q'. rw f.paid (k.payments q');
     }
 
 -- SETTLING
 
-settled_run : (h : List Event) (b b' : Book) (q : ℕ) (x : Amount) → q < b.party_count → Paid b b' q (record { cents = (paid_to b q).cents +ℤ x.cents }) → Reached h b → Reached (settled q (Ok x) ∷ h) b'
+settled_run : (h : List Event) (b b' : Book) (q : ℕ) (x : Amount) → q < b.party_count → Paid b b' q (record { cents = (paid_to b q).cents +ℤ x.cents }) → Reached h b → Reached (settling q (Ok x) ∷ h) b'
 settled_run h b b' q x lq f k =
     let within : q < length (payments_in b) = amount_placed b q lq in
     record {
@@ -151,9 +154,9 @@ settled_run h b b' q x lq f k =
       closings = λ p'. rw f.quarters (k.closings p');
       prices = k.prices;
       bounds = k.bounds;
-      volumes = λ p' q'. rw f.volumes (k.volumes p' q');
-      payments = λ q'. rw f.paid (written (payments_in b) q q' (record { cents = (paid_to b q).cents +ℤ x.cents }) nothing (λ y. y.cents ≡ payments_since (settled q (Ok x) ∷ h) q') within
-          (λ s. subst (λ (w : ℕ). (paid_to b q).cents +ℤ x.cents ≡ payments_since (settled q (Ok x) ∷ h) w) s
+      imbalances = λ p' q'. rw f.imbalances (k.imbalances p' q');
+      payments = λ q'. rw f.paid (written (payments_in b) q q' (record { cents = (paid_to b q).cents +ℤ x.cents }) nothing (λ y. y.cents ≡ payments_since (settling q (Ok x) ∷ h) q') within
+          (λ s. subst (λ (w : ℕ). (paid_to b q).cents +ℤ x.cents ≡ payments_since (settling q (Ok x) ∷ h) w) s
           (rw (eq-eqb q q refl) (omega (arith, ints, k.payments q))))
           (λ d. rw (ne_eqb q q' d) (k.payments q')));
     }
@@ -170,7 +173,7 @@ none_metered zero n p q = refl
 none_metered (suc m) n p zero = all_same n p balanced
 none_metered (suc m) n p (suc q) = none_metered m n p q
 
-pub fresh_run : (b : Book) → Fresh b → Reached [] b
+pub fresh_run : (b : Book) → IsFresh b → Reached [] b
 fresh_run b f =
     let blank : (p : ℕ) → quarter_at b p ≡ Blank = λ p. rw f.blank (all_same 100 p Blank) in
     record {
@@ -178,7 +181,7 @@ fresh_run b f =
       closings = λ p. rw (blank p) refl;
       prices = λ p g e. let z : ◌≡◌ {A = ℕ} 0 1 = cc in absurd (omega arith);
       bounds = λ p g e. let z : ◌≡◌ {A = ℕ} 0 1 = cc in absurd (omega arith);
-      volumes = λ p q. rw f.unmetered (ap (λ (i : Imbalance). i.kwh) (none_metered 32 100 p q));
+      imbalances = λ p q. rw f.unmetered (ap (λ (i : Imbalance). i.kwh) (none_metered 32 100 p q));
       payments = λ q. rw f.unpaid (ap (λ (x : Amount). x.cents) (all_same 32 q nothing));
     }
 
@@ -189,44 +192,44 @@ unchanged : (e : Event) (h : List Event) (b b' : Book) → b' ≡ b → Reached 
 unchanged e h b b' s k = subst (λ (w : Book). Reached (e ∷ h) w) (sym s) k
 
 step : (h : List Event) (e : Event) (b b' : Book) → Did e b b' → Reached h b → Reached (e ∷ h) b'
-step h (priced p m r (Ok x)) b b' d k = priced_run h b b' p m r x d.lawful (pricing_accepted (in_book b) p m r x d.answered) d.changes k
-step h (priced p m r (Err f)) b b' d k = unchanged _ h b b' d.changes (record { standings = k.standings; closings = k.closings; prices = k.prices; bounds = k.bounds; volumes = k.volumes; payments = k.payments })
-step h (metered p q v (Ok i)) b b' d k =
-    let s = passed (volume_fault (in_book b) p q v) (imbalance v) i.kwh d.answered in
+step h (pricing p m r (Ok x)) b b' d k = priced_run h b b' p m r x d.lawful (pricing_accepted (in_book b) p m r x d.answered) d.changes k
+step h (pricing p m r (Err f)) b b' d k = unchanged _ h b b' d.changes (record { standings = k.standings; closings = k.closings; prices = k.prices; bounds = k.bounds; imbalances = k.imbalances; payments = k.payments })
+step h (metering p q v (Ok i)) b b' d k =
+    let s = passed (metering_call_fault (in_book b) p q v) (imbalance v) i.kwh d.answered in
     let n = or_none (period_fault (in_book b) p) _ s.0 in
     let o = or_none (party_fault (in_book b) q) _ n.1 in
     metered_run h b b' p q v i (period_known (in_book b) p n.0) (party_known (in_book b) q o.0) s.1 d.changes k
-step h (metered p q v (Err f)) b b' d k = unchanged _ h b b' d.changes (record { standings = k.standings; closings = k.closings; prices = k.prices; bounds = k.bounds; volumes = k.volumes; payments = k.payments })
-step h (closed p (Ok x)) b b' d k = closed_run h b b' p x (closing_accepted (in_book b) p x d.answered) d.changes k
-step h (closed p (Err f)) b b' d k = unchanged _ h b b' d.changes (record { standings = k.standings; closings = k.closings; prices = k.prices; bounds = k.bounds; volumes = k.volumes; payments = k.payments })
-step h (settled q (Ok x)) b b' d k =
+step h (metering p q v (Err f)) b b' d k = unchanged _ h b b' d.changes (record { standings = k.standings; closings = k.closings; prices = k.prices; bounds = k.bounds; imbalances = k.imbalances; payments = k.payments })
+step h (closing p (Ok x)) b b' d k = closed_run h b b' p x (closing_accepted (in_book b) p x d.answered) d.changes k
+step h (closing p (Err f)) b b' d k = unchanged _ h b b' d.changes (record { standings = k.standings; closings = k.closings; prices = k.prices; bounds = k.bounds; imbalances = k.imbalances; payments = k.payments })
+step h (settling q (Ok x)) b b' d k =
     let s = passed (party_fault (in_book b) q) (payable (in_book b) q) x.cents d.answered in
     settled_run h b b' q x (party_known (in_book b) q s.0) d.changes k
-step h (settled q (Err f)) b b' d k = unchanged _ h b b' d.changes (record { standings = k.standings; closings = k.closings; prices = k.prices; bounds = k.bounds; volumes = k.volumes; payments = k.payments })
+step h (settling q (Err f)) b b' d k = unchanged _ h b b' d.changes (record { standings = k.standings; closings = k.closings; prices = k.prices; bounds = k.bounds; imbalances = k.imbalances; payments = k.payments })
 
 -- THE ANSWER, BY THE RUN
 
-same_worth : (h : List Event) (b : Book) (q : ℕ) → Reached h b → worth (in_book b) q ≡ worth (after_run b.period_count b.party_count h) q
-same_worth h b q k =
-    sum_same b.period_count (λ p. (imbalance_at b p q).kwh *ℤ standing_cents (quarter_at b p)) (λ p. volume_after h p q *ℤ standing_cents (quarter_after h p))
-    (λ p lp. ap (λ (v : ℤ). v *ℤ standing_cents (quarter_at b p)) (k.volumes p q) ∙ ap (λ (x : Quarter). volume_after h p q *ℤ standing_cents x) (k.standings p))
+same_amount : (h : List Event) (b : Book) (q : ℕ) → Reached h b → imbalance_amount (in_book b) q ≡ imbalance_amount (after_run b.period_count b.party_count h) q
+same_amount h b q k =
+    sum_same b.period_count (λ p. (imbalance_at b p q).kwh *ℤ standing_cents (quarter_at b p)) (λ p. imbalance_after h p q *ℤ standing_cents (quarter_after h p))
+    (λ p lp. ap (λ (v : ℤ). v *ℤ standing_cents (quarter_at b p)) (k.imbalances p q) ∙ ap (λ (x : Quarter). imbalance_after h p q *ℤ standing_cents x) (k.standings p))
 
 answered_after : (h : List Event) (e : Event) (b : Book) → Reached h b → Answered (in_book b) e → Answered (after_run b.period_count b.party_count h) e
-answered_after h (priced p m r a) b k d = subst (λ (x : Quarter). PricedAs (or_next (period_fault (in_book b) p) (unless (not (is_closed x)) (QuarterClosed p))) p m r a) (k.standings p) d
-answered_after h (metered p q v a) b k d = subst (λ (x : Quarter). kwh_of a ≡ unless_fault (or_next (period_fault (in_book b) p) (or_next (party_fault (in_book b) q) (or_next (unless (not (is_closed x)) (QuarterClosed p)) (option_map Metering (metering_fault v))))) (imbalance v)) (k.standings p) d
-answered_after h (closed p a) b k d = subst (λ (x : Quarter). a ≡ unless_refused (period_fault (in_book b) p) (closing p x)) (k.standings p) d
-answered_after h (settled q a) b k d =
+answered_after h (pricing p m r a) b k d = subst (λ (x : Quarter). IsPricingAnswer (or_next (period_fault (in_book b) p) (unless (not (is_closed x)) (QuarterClosed p))) p m r a) (k.standings p) d
+answered_after h (metering p q v a) b k d = subst (λ (x : Quarter). kwh_of a ≡ unless_fault (or_next (period_fault (in_book b) p) (or_next (party_fault (in_book b) q) (or_next (unless (not (is_closed x)) (QuarterClosed p)) (option_map Metering (metering_fault v))))) (imbalance v)) (k.standings p) d
+answered_after h (closing p a) b k d = subst (λ (x : Quarter). a ≡ unless_refused (period_fault (in_book b) p) (closing_answer p x)) (k.standings p) d
+answered_after h (settling q a) b k d =
     d ∙ ap (unless_fault (party_fault (in_book b) q))
-    (ap (λ (t : ℤ). rounded t 1000 -ℤ (paid_to b q).cents) (same_worth h b q k) ∙ ap (λ (z : ℤ). rounded (worth (after_run b.period_count b.party_count h) q) 1000 -ℤ z) (k.payments q))
+    (ap (λ (t : ℤ). rounded t 1000 -ℤ (paid_to b q).cents) (same_amount h b q k) ∙ ap (λ (z : ℤ). rounded (imbalance_amount (after_run b.period_count b.party_count h) q) 1000 -ℤ z) (k.payments q))
 
 fair : (n m : ℕ) (h : List Event) (e : Event) → Answered (after_run n m h) e → FairlyPaid n m (e ∷ h)
-fair n m h (priced p s r a) d = tt
-fair n m h (metered p q v a) d = tt
-fair n m h (closed p a) d = tt
-fair n m h (settled q (Err f)) d = tt
-fair n m h (settled q (Ok x)) d =
+fair n m h (pricing p s r a) d = tt
+fair n m h (metering p q v a) d = tt
+fair n m h (closing p a) d = tt
+fair n m h (settling q (Err f)) d = tt
+fair n m h (settling q (Ok x)) d =
     let s = passed (party_fault (after_run n m h) q) (payable (after_run n m h) q) x.cents d in
-    let t : ℤ = worth (after_run n m h) q in
+    let t : ℤ = imbalance_amount (after_run n m h) q in
     rw (eq-eqb q q refl) (record { divides = omega arith; close = omega (arith, ints, s.1, (nearest_rounded t 1000 (omega arith)).close) })
 
 all_fair : (n m : ℕ) (h : List Event) → AllAnswered n m h → AllFairlyPaid n m h
@@ -273,14 +276,14 @@ not_moved : (b b' : Book) → b' ≡ b → SameCounts b b'
 not_moved b b' e = (ap (λ (w : Book). w.period_count) e, ap (λ (w : Book). w.party_count) e)
 
 same_counts : (e : Event) (b b' : Book) → Changes e b b' → SameCounts b b'
-same_counts (priced p m r (Ok x)) b b' c = c.counts
-same_counts (priced p m r (Err f)) b b' c = not_moved b b' c
-same_counts (metered p q v (Ok i)) b b' c = c.counts
-same_counts (metered p q v (Err f)) b b' c = not_moved b b' c
-same_counts (closed p (Ok x)) b b' c = c.counts
-same_counts (closed p (Err f)) b b' c = not_moved b b' c
-same_counts (settled q (Ok x)) b b' c = c.counts
-same_counts (settled q (Err f)) b b' c = not_moved b b' c
+same_counts (pricing p m r (Ok x)) b b' c = c.counts
+same_counts (pricing p m r (Err f)) b b' c = not_moved b b' c
+same_counts (metering p q v (Ok i)) b b' c = c.counts
+same_counts (metering p q v (Err f)) b b' c = not_moved b b' c
+same_counts (closing p (Ok x)) b b' c = c.counts
+same_counts (closing p (Err f)) b b' c = not_moved b b' c
+same_counts (settling q (Ok x)) b b' c = c.counts
+same_counts (settling q (Err f)) b b' c = not_moved b b' c
 
 at_counts : {n n' m m' : ℕ} (P : ℕ → ℕ → Type 0) → (n' ≡ n) × (m' ≡ m) → P n m → P n' m'
 at_counts {n} {n'} {m} {m'} P s x = subst (λ (w : ℕ). P n' w) (sym s.1) (subst (λ (w : ℕ). P w m) (sym s.0) x)
@@ -298,19 +301,19 @@ sound_in {h} {b} r =
     record {
       standings = s.standings;
       closings = s.closings;
-      priced = λ p. has_price h b p s;
+      price_stands = λ p. has_price h b p s;
       prices = λ p g i. right_price h b p g s i;
       bounds = λ p g q i j. s.bounds p g i q (sym (quote_of_last h b p g s i) ∙ j);
-      volumes = s.volumes;
+      imbalances = s.imbalances;
       payments = s.payments;
       answers = a;
       fair = all_fair b.period_count b.party_count h a;
     }
 
-pub whole : (e : Event) (b b' : Book) → Did e b b' → Whole e b b'
-whole e b b' d = record { did = d; only = only (in_book b) e d.answered; run = λ h r. after h e b b' r d; sound = λ h r. sound_in (after h e b b' r d) }
+pub sound_call : (e : Event) (b b' : Book) → Did e b b' → IsSoundCall e b b'
+sound_call e b b' d = record { did = d; only = only (in_book b) e d.answered; run = λ h r. after h e b b' r d; sound = λ h r. sound_in (after h e b b' r d) }
 
-pub fresh_sound : (b : Book) → Fresh b → Sound [] b
+pub fresh_sound : (b : Book) → IsFresh b → Sound [] b
 fresh_sound b f = sound_in (begun b f)
 
 -- AN ANSWER THAT THE BOOK GIVES, BY THE RUN
@@ -319,8 +322,8 @@ fresh_sound b f = sound_in (begun b f)
 pub quarter_said : (h : List Event) (b : Book) (p : ℕ) (x : Quarter) → Run h b → p < b.period_count → get_or b.quarters p x ≡ quarter_after h p
 quarter_said h b p x r l = quarter_of b p x l ∙ (kept r).standings p
 
-pub volume_said : (h : List Event) (b : Book) (p q : ℕ) (x : Party) (i : Imbalance) → Run h b → p < b.period_count → q < b.party_count → (get_or (get_or b.parties q x).volumes p i).kwh ≡ volume_after h p q
-volume_said h b p q x i r l m = ap (λ (y : Imbalance). y.kwh) (imbalance_of b p q x i l m) ∙ (kept r).volumes p q
+pub imbalance_said : (h : List Event) (b : Book) (p q : ℕ) (x : Party) (i : Imbalance) → Run h b → p < b.period_count → q < b.party_count → (get_or (get_or b.parties q x).imbalances p i).kwh ≡ imbalance_after h p q
+imbalance_said h b p q x i r l m = ap (λ (y : Imbalance). y.kwh) (imbalance_of b p q x i l m) ∙ (kept r).imbalances p q
 
 pub payments_said : (h : List Event) (b : Book) (q : ℕ) (x : Party) → Run h b → q < b.party_count → (get_or b.parties q x).paid.cents ≡ payments_since h q
 payments_said h b q x r l = ap (λ (y : Amount). y.cents) (paid_of b q x l) ∙ (kept r).payments q

@@ -6,19 +6,17 @@ use Rattle.metering.specs.declared.imbalance.Imbalance.{Imbalance}
 use Rattle.pricing.proofs.Only.{only_quote}
 use Rattle.source.specs.Meanings.{Meaning}
 use Rattle.units.specs.declared.euros.Amount.{Amount}
-use Rattle.settlement.specs.Events.{Event, priced, metered, closed, settled, Rules}
-use Rattle.settlement.specs.Known.{Known, pricing_fault}
-use Rattle.settlement.specs.Payments.{cents_of}
-use Rattle.settlement.specs.Quarters.{filing}
-use Rattle.settlement.specs.Runs.{Answered, OnlyAnswer, PricedAs}
+use Rattle.settlement.specs.Answers.{IsPricingAnswer, Rules, cents_of, pricing_answer, pricing_fault}
+use Rattle.settlement.specs.Events.{Answered, Event, OnlyAnswer, closing, metering, pricing, settling}
+use Rattle.settlement.specs.Known.{Known}
 use Rattle.settlement.specs.declared.fault.BookFault.{BookFault}
 use Rattle.settlement.specs.declared.quarter.Quarter.{Quarter}
 use Rattle.settlement.proofs.Checks.{never}
 
-only_pricing : (o : Option BookFault) (p : ℕ) (m : Meaning) (r : Rules) (a x : Result Quarter BookFault) → PricedAs o p m r a → PricedAs o p m r x → x ≡ a
+only_pricing : (o : Option BookFault) (p : ℕ) (m : Meaning) (r : Rules) (a x : Result Quarter BookFault) → IsPricingAnswer o p m r a → IsPricingAnswer o p m r x → x ≡ a
 only_pricing (Some f) p m r a x s t = t ∙ sym s
 only_pricing None p m r a x s t =
-    t.answer ∙ ap (filing p) (only_quote m r.code r.ruling t.quote s.quote t.quoted s.quoted) ∙ sym s.answer
+    t.answer ∙ ap (pricing_answer p) (only_quote m r.code r.ruling t.quote s.quote t.quoted s.quoted) ∙ sym s.answer
 
 kwh_same : (a x : Result Imbalance BookFault) → kwh_of x ≡ kwh_of a → x ≡ a
 kwh_same (Ok i) (Ok j) e = let w : j.kwh ≡ i.kwh = cc in ap Ok (imbalance_same j i w)
@@ -33,7 +31,7 @@ cents_same (Err f) (Ok j) e = never j.cents f e
 cents_same (Err f) (Err g) e = let w : g ≡ f = cc in ap Err w
 
 pub only : (k : Known) (e : Event) → Answered k e → OnlyAnswer k e
-only k (priced p m r a) s = λ x t. only_pricing (pricing_fault k p) p m r a x s t
-only k (metered p q v a) s = λ x t. kwh_same a x (t ∙ sym s)
-only k (closed p a) s = λ x t. t ∙ sym s
-only k (settled q a) s = λ x t. cents_same a x (t ∙ sym s)
+only k (pricing p m r a) s = λ x t. only_pricing (pricing_fault k p) p m r a x s t
+only k (metering p q v a) s = λ x t. kwh_same a x (t ∙ sym s)
+only k (closing p a) s = λ x t. t ∙ sym s
+only k (settling q a) s = λ x t. cents_same a x (t ∙ sym s)

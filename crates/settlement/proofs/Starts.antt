@@ -2,27 +2,27 @@
 use Rattle.std.proofs.Common.{◌≡◌, ℕ, ◌≤◌, List, [], ◌∷◌, length, map, Some, None, Ok, Err, Option, Result, nat_abs, sym, refl, ap, ◌∙◌, arith}
 use mathlib.Core.HLevel.{is_prop→PathP}
 use native.Mathlib.Bridge.{le_prop}
-use Rattle.settlement.specs.Runs.{Started, count_fault}
+use Rattle.settlement.specs.Starting.{Started, count_fault}
 use Rattle.settlement.specs.declared.book.Book.{Book}
 use Rattle.settlement.specs.declared.fault.CountFault.{CountFault}
 use Rattle.settlement.specs.declared.party.Party.{Party}
 
-party_same : (p q : Party) → p.volumes ≡ q.volumes → p.paid ≡ q.paid → p ≡ q
+party_same : (p q : Party) → p.imbalances ≡ q.imbalances → p.paid ≡ q.paid → p ≡ q
 party_same p q e f = λ i. record {
-  volumes = e i;
+  imbalances = e i;
   paid = f i;
   places = is_prop→PathP (λ j. 100 ≤ length (e j)) (λ j. le_prop) p.places q.places i;
   payments = is_prop→PathP (λ j. nat_abs (f j).cents ≤ 15_000_000_000_000) (λ j. le_prop) p.payments q.payments i;
 }
 
-parties_same : (ps qs : List Party) → map (λ (p : Party). p.volumes) ps ≡ map (λ (p : Party). p.volumes) qs → map (λ (p : Party). p.paid) ps ≡ map (λ (p : Party). p.paid) qs → ps ≡ qs
+parties_same : (ps qs : List Party) → map (λ (p : Party). p.imbalances) ps ≡ map (λ (p : Party). p.imbalances) qs → map (λ (p : Party). p.paid) ps ≡ map (λ (p : Party). p.paid) qs → ps ≡ qs
 parties_same [] [] e f = refl
 parties_same [] (q ∷ qs) e f = let z : ◌≡◌ {A = ℕ} 0 1 = cc in absurd (omega arith)
 parties_same (p ∷ ps) [] e f = let z : ◌≡◌ {A = ℕ} 0 1 = cc in absurd (omega arith)
 parties_same (p ∷ ps) (q ∷ qs) e f =
-    let v : p.volumes ≡ q.volumes = cc in
+    let v : p.imbalances ≡ q.imbalances = cc in
     let a : p.paid ≡ q.paid = cc in
-    let vs : map (λ (x : Party). x.volumes) ps ≡ map (λ (x : Party). x.volumes) qs = cc in
+    let vs : map (λ (x : Party). x.imbalances) ps ≡ map (λ (x : Party). x.imbalances) qs = cc in
     let bs : map (λ (x : Party). x.paid) ps ≡ map (λ (x : Party). x.paid) qs = cc in
     let h = party_same p q v a in
     let t = parties_same ps qs vs bs in

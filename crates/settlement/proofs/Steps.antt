@@ -7,10 +7,10 @@ use Rattle.metering.specs.declared.fault.MeteringFault.{MeteringFault}
 use Rattle.metering.specs.declared.imbalance.Imbalance.{Imbalance}
 use Rattle.pricing.specs.Quotes.{Answer, IsQuoteOfSource as Quoted}
 use Rattle.source.specs.Meanings.{Meaning}
-use Rattle.settlement.specs.Events.{Rules}
-use Rattle.settlement.specs.Known.{Known, closed_fault, party_fault, payable, period_fault, pricing_fault, unless_refused, volume_fault}
-use Rattle.settlement.specs.Quarters.{closing, is_closed, meets}
-use Rattle.settlement.specs.Runs.{PricedAs}
+use Rattle.settlement.specs.Answers.{IsPricingAnswer, Rules, closed_fault, closing_answer, metering_call_fault, party_fault, period_fault, pricing_fault, unless_refused}
+use Rattle.settlement.specs.Known.{Known, payable}
+use Rattle.settlement.specs.Standings.{is_closed}
+use Rattle.settlement.specs.steps.Turns.{meets}
 use Rattle.settlement.specs.declared.fault.BookFault.{BookFault}
 use Rattle.settlement.specs.declared.fault.BookFault.TheVariants.{PeriodOutOfRange, PartyOutOfRange, QuarterClosed, Metering}
 use Rattle.settlement.specs.declared.quarter.Call.TheVariants.{Price, Meter, Close}
@@ -20,29 +20,29 @@ use Rattle.settlement.proofs.Checks.{never, party_past, party_within, period_pas
 
 -- PRICING
 
-pub price_past : (k : Known) (p : ℕ) (m : Meaning) (r : Rules) → k.periods ≤ p → PricedAs (pricing_fault k p) p m r (Err (PeriodOutOfRange p))
-price_past k p m r l = subst (λ o. PricedAs (or_next o (closed_fault k p)) p m r (Err (PeriodOutOfRange p))) (sym (period_past k p l)) refl
+pub price_past : (k : Known) (p : ℕ) (m : Meaning) (r : Rules) → k.periods ≤ p → IsPricingAnswer (pricing_fault k p) p m r (Err (PeriodOutOfRange p))
+price_past k p m r l = subst (λ o. IsPricingAnswer (or_next o (closed_fault k p)) p m r (Err (PeriodOutOfRange p))) (sym (period_past k p l)) refl
 
-meets_price : (p : ℕ) (m : Meaning) (r : Rules) (a : Result Quarter BookFault) (x : Answer) (y : Quarter) → Quoted m r.code r.ruling x → a ≡ meets p y (Price x) → PricedAs (unless (not (is_closed y)) (QuarterClosed p)) p m r a
+meets_price : (p : ℕ) (m : Meaning) (r : Rules) (a : Result Quarter BookFault) (x : Answer) (y : Quarter) → Quoted m r.code r.ruling x → a ≡ meets p y (Price x) → IsPricingAnswer (unless (not (is_closed y)) (QuarterClosed p)) p m r a
 meets_price p m r a x Blank h e = record { quote = x; quoted = h; answer = e }
 meets_price p m r a x (Priced q) h e = record { quote = x; quoted = h; answer = e }
 meets_price p m r a x (Closed q) h e = e
 
-pub price_answered : (k : Known) (p : ℕ) (m : Meaning) (r : Rules) (a : Result Quarter BookFault) (x : Answer) → p < k.periods → Quoted m r.code r.ruling x → a ≡ meets p (k.quarter p) (Price x) → PricedAs (pricing_fault k p) p m r a
-price_answered k p m r a x l h e = subst (λ o. PricedAs (or_next o (closed_fault k p)) p m r a) (sym (period_within k p l)) (meets_price p m r a x (k.quarter p) h e)
+pub price_answered : (k : Known) (p : ℕ) (m : Meaning) (r : Rules) (a : Result Quarter BookFault) (x : Answer) → p < k.periods → Quoted m r.code r.ruling x → a ≡ meets p (k.quarter p) (Price x) → IsPricingAnswer (pricing_fault k p) p m r a
+price_answered k p m r a x l h e = subst (λ o. IsPricingAnswer (or_next o (closed_fault k p)) p m r a) (sym (period_within k p l)) (meets_price p m r a x (k.quarter p) h e)
 
 -- CLOSING
 
-pub close_past : (k : Known) (p : ℕ) → k.periods ≤ p → Err (PeriodOutOfRange p) ≡ unless_refused (period_fault k p) (closing p (k.quarter p))
-close_past k p l = ap (λ o. unless_refused o (closing p (k.quarter p))) (sym (period_past k p l))
+pub close_past : (k : Known) (p : ℕ) → k.periods ≤ p → Err (PeriodOutOfRange p) ≡ unless_refused (period_fault k p) (closing_answer p (k.quarter p))
+close_past k p l = ap (λ o. unless_refused o (closing_answer p (k.quarter p))) (sym (period_past k p l))
 
-meets_close : (p : ℕ) (y : Quarter) → meets p y Close ≡ closing p y
+meets_close : (p : ℕ) (y : Quarter) → meets p y Close ≡ closing_answer p y
 meets_close p Blank = refl
 meets_close p (Priced q) = refl
 meets_close p (Closed q) = refl
 
-pub close_answered : (k : Known) (p : ℕ) (a : Result Quarter BookFault) → p < k.periods → a ≡ meets p (k.quarter p) Close → a ≡ unless_refused (period_fault k p) (closing p (k.quarter p))
-close_answered k p a l e = e ∙ meets_close p (k.quarter p) ∙ ap (λ o. unless_refused o (closing p (k.quarter p))) (sym (period_within k p l))
+pub close_answered : (k : Known) (p : ℕ) (a : Result Quarter BookFault) → p < k.periods → a ≡ meets p (k.quarter p) Close → a ≡ unless_refused (period_fault k p) (closing_answer p (k.quarter p))
+close_answered k p a l e = e ∙ meets_close p (k.quarter p) ∙ ap (λ o. unless_refused o (closing_answer p (k.quarter p))) (sym (period_within k p l))
 
 -- METERING
 
@@ -54,35 +54,35 @@ abbrev pub carried : Result Imbalance MeteringFault → Result Imbalance BookFau
 carried (Ok i) = Ok i
 carried (Err f) = Err (Metering f)
 
--- a quarter that takes a volume is not closed
-pub takes_volume : (p : ℕ) (y x : Quarter) → Ok x ≡ meets p y Meter → is_closed y ≡ false
-takes_volume p Blank x e = refl
-takes_volume p (Priced q) x e = refl
-takes_volume p (Closed q) x e = never x _ e
+-- a quarter that takes an imbalance is not closed
+pub takes_values : (p : ℕ) (y x : Quarter) → Ok x ≡ meets p y Meter → is_closed y ≡ false
+takes_values p Blank x e = refl
+takes_values p (Priced q) x e = refl
+takes_values p (Closed q) x e = never x _ e
 
 -- one that refuses it is
-pub refuses_volume : (p : ℕ) (y : Quarter) (f : BookFault) → Err f ≡ meets p y Meter → (is_closed y ≡ true) × (f ≡ QuarterClosed p)
-refuses_volume p Blank f e = never Blank f (sym e)
-refuses_volume p (Priced q) f e = never (Priced q) f (sym e)
-refuses_volume p (Closed q) f e = (refl, cc)
+pub refuses_values : (p : ℕ) (y : Quarter) (f : BookFault) → Err f ≡ meets p y Meter → (is_closed y ≡ true) × (f ≡ QuarterClosed p)
+refuses_values p Blank f e = never Blank f (sym e)
+refuses_values p (Priced q) f e = never (Priced q) f (sym e)
+refuses_values p (Closed q) f e = (refl, cc)
 
 module _ (k : Known) (p q : ℕ) (v : Values) where
-  after_period : p < k.periods → volume_fault k p q v ≡ or_next (party_fault k q) (or_next (closed_fault k p) (option_map Metering (metering_fault v)))
+  after_period : p < k.periods → metering_call_fault k p q v ≡ or_next (party_fault k q) (or_next (closed_fault k p) (option_map Metering (metering_fault v)))
   after_period l = ap (λ o. or_next o (or_next (party_fault k q) (or_next (closed_fault k p) (option_map Metering (metering_fault v))))) (period_within k p l)
 
-  after_party : p < k.periods → q < k.parties → volume_fault k p q v ≡ or_next (closed_fault k p) (option_map Metering (metering_fault v))
+  after_party : p < k.periods → q < k.parties → metering_call_fault k p q v ≡ or_next (closed_fault k p) (option_map Metering (metering_fault v))
   after_party l m = after_period l ∙ ap (λ o. or_next o (or_next (closed_fault k p) (option_map Metering (metering_fault v)))) (party_within k q m)
 
-  after_closed : p < k.periods → q < k.parties → is_closed (k.quarter p) ≡ false → volume_fault k p q v ≡ option_map Metering (metering_fault v)
+  after_closed : p < k.periods → q < k.parties → is_closed (k.quarter p) ≡ false → metering_call_fault k p q v ≡ option_map Metering (metering_fault v)
   after_closed l m e = after_party l m ∙ ap (λ t. or_next (unless (not t) (QuarterClosed p)) (option_map Metering (metering_fault v))) e
 
-  pub meter_past_period : k.periods ≤ p → Err (PeriodOutOfRange p) ≡ unless_fault (volume_fault k p q v) (imbalance v)
+  pub meter_past_period : k.periods ≤ p → Err (PeriodOutOfRange p) ≡ unless_fault (metering_call_fault k p q v) (imbalance v)
   meter_past_period l = refused _ _ _ (ap (λ o. or_next o (or_next (party_fault k q) (or_next (closed_fault k p) (option_map Metering (metering_fault v))))) (period_past k p l))
 
-  pub meter_past_party : p < k.periods → k.parties ≤ q → Err (PartyOutOfRange q) ≡ unless_fault (volume_fault k p q v) (imbalance v)
+  pub meter_past_party : p < k.periods → k.parties ≤ q → Err (PartyOutOfRange q) ≡ unless_fault (metering_call_fault k p q v) (imbalance v)
   meter_past_party l m = refused _ _ _ (after_period l ∙ ap (λ o. or_next o (or_next (closed_fault k p) (option_map Metering (metering_fault v)))) (party_past k q m))
 
-  pub meter_closed : p < k.periods → q < k.parties → is_closed (k.quarter p) ≡ true → Err (QuarterClosed p) ≡ unless_fault (volume_fault k p q v) (imbalance v)
+  pub meter_closed : p < k.periods → q < k.parties → is_closed (k.quarter p) ≡ true → Err (QuarterClosed p) ≡ unless_fault (metering_call_fault k p q v) (imbalance v)
   meter_closed l m e = refused _ _ _ (after_party l m ∙ ap (λ t. or_next (unless (not t) (QuarterClosed p)) (option_map Metering (metering_fault v))) e)
 
   by_values : (o : Option MeteringFault) (z : ℤ) (a : Result Imbalance MeteringFault) (r : Result Imbalance BookFault) → kwh_of a ≡ unless_fault o z → r ≡ carried a → kwh_of r ≡ unless_fault (option_map Metering o) z
@@ -91,7 +91,7 @@ module _ (k : Known) (p q : ℕ) (v : Values) where
   by_values (Some f) z (Ok i) r e s = never i.kwh f e
   by_values (Some f) z (Err g) r e s = ap kwh_of s ∙ (let w : g ≡ f = cc in ap (λ h. Err (Metering h)) w)
 
-  pub meter_answered : (a : Result Imbalance MeteringFault) (r : Result Imbalance BookFault) → p < k.periods → q < k.parties → is_closed (k.quarter p) ≡ false → kwh_of a ≡ imbalance_of v → r ≡ carried a → kwh_of r ≡ unless_fault (volume_fault k p q v) (imbalance v)
+  pub meter_answered : (a : Result Imbalance MeteringFault) (r : Result Imbalance BookFault) → p < k.periods → q < k.parties → is_closed (k.quarter p) ≡ false → kwh_of a ≡ imbalance_of v → r ≡ carried a → kwh_of r ≡ unless_fault (metering_call_fault k p q v) (imbalance v)
   meter_answered a r l m c e s = by_values (metering_fault v) (imbalance v) a r e s ∙ ap (λ o. unless_fault o (imbalance v)) (sym (after_closed l m c))
 
 -- SETTLING

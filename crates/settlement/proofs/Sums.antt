@@ -1,4 +1,4 @@
--- Sums of volume times price: how large they are, and one period more.
+-- Sums of imbalance times price: how large they are, and one period more.
 use Rattle.std.proofs.Common.{◌≡◌, ℕ, zero, suc, ◌+◌, ◌*◌, ◌<◌, ◌≤◌, ℤ, ◌+ℤ◌, ◌*ℤ◌, nat_abs, refl, ap, ◌∙◌, add-one, arith, w64, SFits, to_z, of_z}
 use borrow.Author.Differences.{ints}
 use Rattle.std.proofs.lemmas.Int.{to_z-of_z, unsigned_abs-mul}
@@ -6,7 +6,7 @@ use Rattle.std.proofs.lemmas.Nat.{mul-le}
 use Rattle.units.proofs.Rounds.{nearest_rounded}
 use Rattle.units.specs.Rounding.{rounded}
 use Rattle.settlement.specs.Known.{sum_to}
-use Rattle.settlement.specs.Quarters.{standing_cents}
+use Rattle.settlement.specs.Standings.{standing_cents}
 use Rattle.settlement.specs.declared.quarter.Quarter.{Quarter}
 use Rattle.settlement.specs.declared.quarter.Quarter.TheVariants.{Blank, Priced, Closed}
 

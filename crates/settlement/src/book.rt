@@ -1,5 +1,6 @@
 // The book itself, and what always holds of it.
 ghost use Rattle.std.specs.Prelude.{◌≡◌, ◌<◌, ◌≤◌, IfErr, OnOk, length};
+ghost use Rattle.settlement.specs.declared.book.TheConstants.{MOST_PERIODS, MOST_PARTIES};
 ghost use Rattle.settlement.specs.declared.fault.BookFault.TheVariants.{PeriodOutOfRange, PartyOutOfRange};
 
 use crate::fault::BookFault;
@@ -24,8 +25,8 @@ pub struct Book {
     parties: [Party; MOST_PARTIES],
     period_count: usize,
     party_count: usize,
-    ghost places: { (100 ≤ length quarters) × (32 ≤ length parties) },
-    ghost counts: { (1 ≤ period_count) × (period_count ≤ 100) × (1 ≤ party_count) × (party_count ≤ 32) },
+    ghost places: { (MOST_PERIODS ≤ length quarters) × (MOST_PARTIES ≤ length parties) },
+    ghost counts: { (1 ≤ period_count) × (period_count ≤ MOST_PERIODS) × (1 ≤ party_count) × (party_count ≤ MOST_PARTIES) },
 }
 
 impl Book {

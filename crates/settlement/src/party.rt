@@ -1,7 +1,8 @@
 // A balance party of the book.
 ghost use Rattle.std.specs.Prelude.{◌≡◌, ◌≤◌, length, replicate, unsigned_abs};
 ghost use Rattle.metering.specs.Imbalances.{balanced};
-ghost use Rattle.settlement.specs.Payments.{nothing};
+ghost use Rattle.settlement.specs.Known.{nothing};
+ghost use Rattle.settlement.specs.declared.book.TheConstants.{MOST_PERIODS};
 
 use crate::book::MOST_PERIODS;
 use metering::imbalance::Imbalance;
@@ -10,20 +11,20 @@ use units::euros::Amount;
 /// A party's imbalance in each quarter, and what it was paid so far.
 #[derive(Clone, Copy)]
 pub(crate) struct Party {
-    pub(crate) volumes: [Imbalance; MOST_PERIODS],
+    pub(crate) imbalances: [Imbalance; MOST_PERIODS],
     pub(crate) paid: Amount,
-    ghost places: { 100 ≤ length volumes },
+    ghost places: { MOST_PERIODS ≤ length imbalances },
     ghost payments: { unsigned_abs paid.cents ≤ 15_000_000_000_000 },
 }
 
 impl Party {
     // A party of which nothing is metered, and that was paid nothing.
     pub(crate) fn blank() -> Party
-        ensures unmetered { result.volumes ≡ replicate 100 balanced }
+        ensures unmetered { result.imbalances ≡ replicate MOST_PERIODS balanced }
         ensures unpaid { result.paid ≡ nothing }
     {
         Party {
-            volumes: [Imbalance::zero(); MOST_PERIODS],
+            imbalances: [Imbalance::zero(); MOST_PERIODS],
             paid: Amount { cents: 0 },
         }
     }

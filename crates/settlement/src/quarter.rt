@@ -1,6 +1,6 @@
 // How a quarter of the book stands, and the calls that it meets.
 ghost use Rattle.std.specs.Prelude.{◌≡◌, ◌≤◌, ◌*ℤ◌, unsigned_abs};
-ghost use Rattle.settlement.specs.Quarters.{quote_in, standing_cents};
+ghost use Rattle.settlement.specs.Standings.{quote_in, standing_cents};
 
 use metering::imbalance::Imbalance;
 use pricing::fault::QuoteFault;
@@ -17,7 +17,7 @@ pub enum Quarter {
 impl Quarter {
     /// The quote that is filed, if there is one.
     pub fn quote(self) -> Option<Quote>
-        ensures { result ≡ quote_in self }
+        ensures filed { result ≡ quote_in self }
     {
         match self {
             Quarter::Blank => None,
@@ -25,12 +25,12 @@ impl Quarter {
         }
     }
 
-    // The volume at the standing price, in thousandths of a cent.
-    pub(crate) fn worth(self, volume: Imbalance) -> i64
-        ensures product { result ≡ volume.kwh *ℤ standing_cents self }
+    // The imbalance at the standing price, in thousandths of a cent.
+    pub(crate) fn amount_for(self, imbalance: Imbalance) -> i64
+        ensures product { result ≡ imbalance.kwh *ℤ standing_cents self }
         ensures bound { unsigned_abs result ≤ 149_998_500_000_000 }
     {
-        volume.kwh() * self.cents()
+        imbalance.kwh() * self.cents()
     }
 
     // Cents of the standing price, 0 where there is none.
@@ -41,7 +41,7 @@ impl Quarter {
     }
 }
 
-// What a quarter is asked to do: to file a quote, which its source may refuse, to take a volume, or to close.
+// What a quarter is asked to do: to file a quote, which its source may refuse, to take meter values, or to close.
 #[derive(Clone, Copy)]
 pub(crate) enum Call {
     Price(Result<Quote, QuoteFault>),

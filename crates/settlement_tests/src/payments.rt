@@ -69,6 +69,6 @@ fn imbalances(rt: HostRuntime) -> Result<(), Fail> {
         adjustment: -5_000_000,
     };
     assert!(rt; book.meter(0, 0, &widest)?.kwh() == 15_000_000);
-    assert!(rt; book.volume(0, 0)?.kwh() == 15_000_000);
+    assert!(rt; book.imbalance(0, 0)?.kwh() == 15_000_000);
     Ok(())
 }

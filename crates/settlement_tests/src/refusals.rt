@@ -77,13 +77,13 @@ fn metering(rt: HostRuntime) -> Result<(), Fail> {
         )
     );
     assert!(rt; refused(book.meter(0, 0, &values(&[], 0, -5_000_001)), 13, 35));
-    assert!(rt; book.volume(0, 0)?.kwh() == 0);
+    assert!(rt; book.imbalance(0, 0)?.kwh() == 0);
     price_at(&mut book, 0, 100)?;
     meter(&mut book, 0, 0, 7)?;
     book.close(0)?;
     assert!(rt; refused(book.meter(0, 1, &values(&[far; 33], far, far)), 10, 1));
     assert!(rt; refused(book.meter(0, 0, &values(&[far; 33], far, far)), 11, 0));
-    assert!(rt; book.volume(0, 0)?.kwh() == 7);
+    assert!(rt; book.imbalance(0, 0)?.kwh() == 7);
     Ok(())
 }
 
@@ -98,8 +98,8 @@ fn others(rt: HostRuntime) -> Result<(), Fail> {
     assert!(rt; refused(book.close(0), 11, 0));
     assert!(rt; refused(book.settle(1), 10, 1));
     assert!(rt; refused(book.quarter(1), 9, 1));
-    assert!(rt; refused(book.volume(1, 1), 9, 1));
-    assert!(rt; refused(book.volume(0, 1), 10, 1));
+    assert!(rt; refused(book.imbalance(1, 1), 9, 1));
+    assert!(rt; refused(book.imbalance(0, 1), 10, 1));
     assert!(rt; refused(book.payments(1), 10, 1));
     Ok(())
 }

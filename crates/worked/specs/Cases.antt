@@ -8,7 +8,8 @@ use Rattle.pricing.specs.declared.fault.QuoteFault.TheVariants.{NoAvoidedValue}
 use Rattle.pricing.specs.declared.quote.Quote.{Quote}
 use Rattle.pricing.specs.declared.quote.QuoteDirection.{QuoteDirection}
 use Rattle.pricing.specs.declared.quote.QuoteDirection.TheVariants.{Up, Avoided}
-use Rattle.settlement.specs.Events.{Rules, settled}
+use Rattle.settlement.specs.Answers.{Rules}
+use Rattle.settlement.specs.Events.{settling}
 use Rattle.sheet.specs.Faults.{number_number}
 use Rattle.sheet.specs.Numbers.{quantity}
 use Rattle.sheet.specs.declared.fault.NumberFault.{NumberFault}
@@ -54,7 +55,7 @@ pub record WorkedByHand (f : WorkedFigures) : Type 0 where
   pub no_value_4 : LacksAvoidedValue (balanced None) 4 max_min
   -- 1 kWh at 5.00 in period 0; then the same in period 1, once the first is settled
   pub first_half_cent : (m : Meaning) (r : Rules) → PaysNext (metered_at m r 0 (cents (pos 500) tt) (kwh (pos 1) tt) []) f.first_half_cent
-  pub second_half_cent : (m : Meaning) (r : Rules) → PaysNext (metered_at m r 1 (cents (pos 500) tt) (kwh (pos 1) tt) (settled 0 (Ok (record { cents = f.first_half_cent })) ∷ metered_at m r 0 (cents (pos 500) tt) (kwh (pos 1) tt) [])) f.second_half_cent
+  pub second_half_cent : (m : Meaning) (r : Rules) → PaysNext (metered_at m r 1 (cents (pos 500) tt) (kwh (pos 1) tt) (settling 0 (Ok (record { cents = f.first_half_cent })) ∷ metered_at m r 0 (cents (pos 500) tt) (kwh (pos 1) tt) [])) f.second_half_cent
   pub surplus : (m : Meaning) (r : Rules) → PaysNext (metered_at m r 0 (cents (pos 5_000) tt) (kwh (pos 3_750) tt) []) f.surplus
   pub deficit : (m : Meaning) (r : Rules) → PaysNext (metered_at m r 0 (cents (pos 7_000) tt) (kwh (negsuc 24_999) tt) []) f.deficit
   pub stored_0 : number_bytes (pos 0) ≡ f.stored_0

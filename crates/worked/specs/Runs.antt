@@ -4,8 +4,9 @@ use Rattle.std.proofs.Common.{leb→le}
 use Rattle.metering.specs.Imbalances.{Values}
 use Rattle.metering.specs.declared.imbalance.Imbalance.{Imbalance}
 use Rattle.pricing.specs.declared.quote.QuoteDirection.TheVariants.{Up}
-use Rattle.settlement.specs.Events.{Event, priced, metered, settled, Rules, after_run}
-use Rattle.settlement.specs.Runs.{Answered}
+use Rattle.settlement.specs.Answers.{Rules}
+use Rattle.settlement.specs.Events.{Answered, Event, metering, pricing, settling}
+use Rattle.settlement.specs.Runs.{after_run}
 use Rattle.settlement.specs.declared.quarter.Quarter.{Quarter}
 use Rattle.settlement.specs.declared.quarter.Quarter.TheVariants.{Priced}
 use Rattle.source.specs.Meanings.{Meaning}
@@ -25,8 +26,8 @@ kwh z h = record { kwh = z; bounded = leb→le (unsigned_abs z) 15_000_000 h }
 
 -- so many kWh of party 0 at a price in a period, after the calls h
 abbrev pub metered_at : Meaning → Rules → ℕ → Price → Imbalance → List Event → List Event
-metered_at m r p x i h = metered p 0 (allocated i.kwh) (Ok i) ∷ priced p m r (Ok (at x)) ∷ h
+metered_at m r p x i h = metering p 0 (allocated i.kwh) (Ok i) ∷ pricing p m r (Ok (at x)) ∷ h
 
 -- settling party 0 of a book of two periods and one party pays z after the calls h
 abbrev pub PaysNext : List Event → ℤ → Type 0
-PaysNext h z = Answered (after_run 2 1 h) (settled 0 (Ok (record { cents = z })))
+PaysNext h z = Answered (after_run 2 1 h) (settling 0 (Ok (record { cents = z })))

@@ -1,11 +1,11 @@
 // The four calls that change a book: pricing, metering, closing and settling.
 ghost use Rattle.std.specs.Prelude.{◌≡◌, ◌*◌, ◌<◌, ◌≤◌, unsigned_abs};
 ghost use Rattle.metering.specs.Imbalances.{values_of};
-ghost use Rattle.settlement.specs.Books.{Turned, in_book, quarter_at};
-ghost use Rattle.settlement.specs.Events.{priced, metered, closed, settled};
-ghost use Rattle.settlement.specs.Known.{worth};
-ghost use Rattle.settlement.specs.Quarters.{meets};
-ghost use Rattle.settlement.specs.Runs.{Whole};
+ghost use Rattle.settlement.specs.Books.{in_book, quarter_at};
+ghost use Rattle.settlement.specs.Events.{pricing, metering, closing, settling};
+ghost use Rattle.settlement.specs.Known.{imbalance_amount};
+ghost use Rattle.settlement.specs.Promises.{IsSoundCall};
+ghost use Rattle.settlement.specs.steps.Turns.{Turned, meets};
 
 use crate::book::Book;
 use crate::fault::BookFault;
@@ -49,16 +49,16 @@ impl Book {
         }
     }
 
-    // T: the party's volumes at the standing prices, in thousandths of a cent.
-    fn worth(&self, party: usize) -> i64
+    // T: the party's imbalances at the standing prices, in thousandths of a cent.
+    fn imbalance_amount(&self, party: usize) -> i64
         requires { party < self.now.party_count }
-        ensures in_all { result ≡ worth (in_book self.now) party }
+        ensures in_all { result ≡ imbalance_amount (in_book self.now) party }
         ensures bound { unsigned_abs result ≤ 100 * 149_998_500_000_000 }
     {
         let quarters = &self.quarters[..self.period_count];
         let mut sum = 0;
-        for (quarter, volume) in quarters.iter().zip(self.parties[party].volumes.iter()) {
-            sum += quarter.worth(*volume);
+        for (quarter, imbalance) in quarters.iter().zip(self.parties[party].imbalances.iter()) {
+            sum += quarter.amount_for(*imbalance);
         }
         sum
     }
@@ -71,7 +71,7 @@ impl Book {
         source: &S,
         rulebook: &R,
     ) -> Result<Quarter, BookFault>
-        ensures { Whole (priced period (S.PriceSource.means source.now) (record { code = R.Rulebook.CODE; net = R.Rulebook.NET; ruling = R.Rulebook.ruling rulebook.now }) result) self.old self.new }
+        ensures { IsSoundCall (pricing period (S.PriceSource.means source.now) (record { code = R.Rulebook.CODE; net = R.Rulebook.NET; ruling = R.Rulebook.ruling rulebook.now }) result) self.old self.new }
     {
         self.has_period(period)?;
         let answer = quote_source(source, rulebook);
@@ -86,7 +86,7 @@ impl Book {
         party: usize,
         values: &MeterValues<'_>,
     ) -> Result<Imbalance, BookFault>
-        ensures { Whole (metered period party (values_of values.now) result) self.old self.new }
+        ensures { IsSoundCall (metering period party (values_of values.now) result) self.old self.new }
     {
         self.has_period(period)?;
         self.has_party(party)?;
@@ -94,27 +94,27 @@ impl Book {
         let imbalance = values.imbalance()?;
         let parties = &mut self.parties;
         let metered = &mut parties[party];
-        metered.volumes[period] = imbalance;
+        metered.imbalances[period] = imbalance;
         Ok(imbalance)
     }
 
     /// Closes a priced quarter at its price. Answers the quarter as it now stands. Refused, in this order,
     /// with 9, 11 and 12.
     pub fn close(&mut self, period: usize) -> Result<Quarter, BookFault>
-        ensures { Whole (closed period result) self.old self.new }
+        ensures { IsSoundCall (closing period result) self.old self.new }
     {
         self.has_period(period)?;
         self.turn(period, Call::Close)
     }
 
-    /// Pays the party what its volumes at the standing prices come to, in whole cents, less all that it was paid
+    /// Pays the party what its imbalances at the standing prices come to, in whole cents, less all that it was paid
     /// before. Answers the payment, positive where the party receives. Refused with 10.
     pub fn settle(&mut self, party: usize) -> Result<Amount, BookFault>
-        ensures { Whole (settled party result) self.old self.new }
+        ensures { IsSoundCall (settling party result) self.old self.new }
     {
         self.has_party(party)?;
         let thousandths = Fraction {
-            n: self.worth(party),
+            n: self.imbalance_amount(party),
             d: 1000,
         };
         let due = thousandths.nearest();

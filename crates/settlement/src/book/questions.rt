@@ -1,10 +1,10 @@
 // The questions to a book. None changes it.
 ghost use Rattle.std.specs.Prelude.{◌≡◌, List, IfOk};
 ghost use Rattle.metering.specs.Imbalances.{unless_fault};
+ghost use Rattle.settlement.specs.Answers.{party_fault, period_fault, place_fault};
 ghost use Rattle.settlement.specs.Books.{imbalance_at, in_book, paid_to, quarter_at};
-ghost use Rattle.settlement.specs.Events.{Event, volume_after, payments_since, quarter_after};
-ghost use Rattle.settlement.specs.Known.{party_fault, period_fault, place_fault};
-ghost use Rattle.settlement.specs.Runs.{Run};
+ghost use Rattle.settlement.specs.Events.{Event};
+ghost use Rattle.settlement.specs.Runs.{Run, imbalance_after, payments_since, quarter_after};
 
 use crate::book::Book;
 use crate::fault::BookFault;
@@ -24,15 +24,15 @@ impl Book {
     }
 
     /// The party's imbalance in the quarter. Refused with 9, then 10.
-    #[tactic(auto, using(crate::proofs::Kept::volume_said))]
-    pub fn volume(&self, period: usize, party: usize) -> Result<Imbalance, BookFault>
+    #[tactic(auto, using(crate::proofs::Kept::imbalance_said))]
+    pub fn imbalance(&self, period: usize, party: usize) -> Result<Imbalance, BookFault>
         ensures answers { result ≡ unless_fault (place_fault (in_book self.now) period party) (imbalance_at self.now period party) }
-        ensures as_the_run_says { (h : List Event) → Run h self.now → IfOk result (λ x. x.kwh ≡ volume_after h period party) }
+        ensures as_the_run_says { (h : List Event) → Run h self.now → IfOk result (λ x. x.kwh ≡ imbalance_after h period party) }
     {
         self.has_period(period)?;
         self.has_party(party)?;
-        let volumes = &self.parties[party].volumes;
-        Ok(volumes[period])
+        let imbalances = &self.parties[party].imbalances;
+        Ok(imbalances[period])
     }
 
     /// All that the party was paid so far. Refused with 10.

@@ -1,6 +1,6 @@
 // Starting a book.
 ghost use Rattle.std.specs.Prelude.{◌≡◌, Result};
-ghost use Rattle.settlement.specs.Runs.{Started};
+ghost use Rattle.settlement.specs.Starting.{MostCounts, Started};
 ghost use Rattle.settlement.specs.declared.book.Book.{Book};
 ghost use Rattle.settlement.specs.declared.fault.CountFault.{CountFault};
 
@@ -13,6 +13,7 @@ impl Book {
     /// A book of blank quarters, in which nothing is metered and nothing paid. Refused with 14.
     pub fn start(periods: usize, parties: usize) -> Result<Book, CountFault>
         ensures started { Started periods parties result }
+        ensures most_counts { MostCounts }
         ensures only_answer { (r : Result Book CountFault) → Started periods parties r → r ≡ result }
     {
         if !(1..=MOST_PERIODS).contains(&periods) {

@@ -1,6 +1,6 @@
 use Rattle.std.proofs.Common.{◌≡◌, false, ◌<◌, arith, get_or, pos, ap, ◌∙◌}
 use Rattle.settlement.specs.Books.{quarter_at}
-use Rattle.settlement.specs.Quarters.{is_closed}
+use Rattle.settlement.specs.Standings.{is_closed}
 use Rattle.settlement.specs.declared.quarter.Quarter.TheVariants.{Blank}
 use Rattle.exports.proofs.Metering.{next_period, one_more, took}
 use Rattle.exports.proofs.bench_day.meter_all.Goals as goal

@@ -1,7 +1,7 @@
 use Rattle.std.proofs.Common.{◌≡◌, ◌<◌, ◌+◌, cond, get_or, length, is_ok, arith, refl, ap, ◌∙◌, rules, subst, leb, []}
 use Rattle.std.specs.List.{slice_range}
-use Rattle.settlement.specs.Runs.{Whole}
-use Rattle.settlement.specs.Events.{priced}
+use Rattle.settlement.specs.Events.{pricing}
+use Rattle.settlement.specs.Promises.{IsSoundCall}
 use Rattle.pricing.specs.declared.ruling.Net.TheVariants.{Zone}
 use Rattle.sheet.specs.Sheets.{sheet_meaning}
 use Rattle.exports.specs.BenchDays.{sheet_at}
@@ -31,7 +31,7 @@ loop-period-preserved c =
     let start : c.if-is_ok.start ≡ end = search rules in
     one_more c.args.sheets.now c.args.ends.now c.args.book.now b c.price.new.self i c.loop-period.priced c.if-is_ok.priced c.loop-period.start c.if-is_ok.start c.price.result start more t
     (priced_one b c.price.new.self i (sheet_at c.args.sheets.now c.args.ends.now i) Zone c.price.result within (t.blank i (omega arith))
-    (subst (λ s. Whole (priced i (sheet_meaning s) (by_finnish Zone) c.price.result) b c.price.new.self) sheet c.price.ensures))
+    (subst (λ s. IsSoundCall (pricing i (sheet_meaning s) (by_finnish Zone) c.price.result) b c.price.new.self) sheet c.price.ensures))
 
 pub returns-clause-quarters : goal.returns-clause-quarters
 returns-clause-quarters c = all_priced c.args.sheets.now c.args.ends.now c.args.book.now c.loop-period.book c.loop-period.period c.loop-period.priced c.loop-period.start (omega arith) (omega arith) c.loop-period.invariant

@@ -1,8 +1,9 @@
 use Rattle.std.proofs.Common.{◌≡◌, ℕ, ◌≤◌, ◌&&◌, leb, replicate, None, Ok, refl, ap, ◌∙◌, rules}
 use Rattle.std.proofs.lemmas.Bool.{and_from, le-leb}
 use Rattle.metering.specs.Imbalances.{or_next, unless}
-use Rattle.settlement.specs.Books.{Fresh}
-use Rattle.settlement.specs.Runs.{Begins, Started, begun, count_fault}
+use Rattle.settlement.specs.Books.{IsFresh}
+use Rattle.settlement.specs.Runs.{begun}
+use Rattle.settlement.specs.Starting.{Begins, Started, count_fault}
 use Rattle.settlement.specs.declared.book.Book.{Book}
 use Rattle.settlement.specs.declared.fault.CountFault.TheVariants.{Periods, Parties}
 use Rattle.settlement.proofs.Kept.{fresh_sound}
@@ -14,7 +15,7 @@ counts n m a b d e =
     ap (λ t. or_next (unless t Periods) (unless (leb 1 m && leb m 32) Parties)) (and_from _ _ (le-leb 1 n a) (le-leb n 100 b))
     ∙ ap (λ t. unless t Parties) (and_from _ _ (le-leb 1 m d) (le-leb m 32 e))
 
-begins : (n m : ℕ) (b : Book) → count_fault n m ≡ None → b.period_count ≡ n → b.party_count ≡ m → Fresh b → Begins n m b
+begins : (n m : ℕ) (b : Book) → count_fault n m ≡ None → b.period_count ≡ n → b.party_count ≡ m → IsFresh b → Begins n m b
 begins n m b c p q f = record { counts = c; periods = p; parties = q; fresh = f; run = begun b f; sound = fresh_sound b f }
 
 pub returns : goal.returns
@@ -26,4 +27,4 @@ returns c =
       unmetered = ap (replicate 32) c.blank.ensures.unmetered;
       unpaid = ap (replicate 32) c.blank.ensures.unpaid;
     }) in
-    record { started = s; only_answer = λ r t. started_once n m (Ok _) r s t }
+    record { started = s; most_counts = record { periods = refl; parties = refl }; only_answer = λ r t. started_once n m (Ok _) r s t }

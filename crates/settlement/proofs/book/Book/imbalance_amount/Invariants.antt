@@ -1,8 +1,8 @@
 use Rattle.std.proofs.Common.{◌≡◌, ◌*◌, ◌≤◌, length, ◌*ℤ◌, nat_abs}
 use Rattle.settlement.specs.Books.{imbalance_at, quarter_at}
 use Rattle.settlement.specs.Known.{sum_to}
-use Rattle.settlement.specs.Quarters.{standing_cents}
-use Rattle.settlement.proofs.book.Book.worth.Given as goal
+use Rattle.settlement.specs.Standings.{standing_cents}
+use Rattle.settlement.proofs.book.Book.imbalance_amount.Given as goal
 
 abbrev pub invariant-loop-quarter : goal.invariant-loop-quarter
 invariant-loop-quarter l =
