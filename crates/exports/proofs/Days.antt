@@ -1,5 +1,5 @@
 -- The day as a whole, from what each of its steps leaves.
-use Rattle.std.proofs.Common.{◌≡◌, ℕ, suc, ◌-◌, ◌<◌, Bool, true, false, cond, ◌&&◌, eqb, ltb, ⊎_elim, List, length, get_or, replicate, map, ℤ, pos, ◌*ℤ◌, Result, sym, refl, ap, ◌∙◌, subst, arith}
+use Rattle.std.proofs.Common.{◌≡◌, ℕ, suc, ◌-◌, ◌<◌, Bool, true, false, cond, ◌&&◌, eqb, ltb, ⊎_elim, List, length, get_or, replicate, map, ℤ, pos, Result, sym, refl, ap, ◌∙◌, subst, arith}
 use Rattle.std.specs.List.{count_by}
 use Rattle.std.proofs.lemmas.Bool.{and_parts, both_ways, and_from, cases_Bool, eq-eqb, eqb-true, ltb-true}
 use Rattle.std.proofs.lemmas.List.{get_or-take, length-take-le}
@@ -10,17 +10,18 @@ use Rattle.units.specs.declared.euros.Amount.{Amount}
 use Rattle.settlement.specs.Books.{imbalance_at, imbalances_in, in_book, payments_in}
 use Rattle.settlement.specs.Changes.{SameCounts}
 use Rattle.settlement.specs.Events.{metering}
-use Rattle.settlement.specs.Known.{Known, imbalance_amount, nothing, payable, sum_to}
+use Rattle.settlement.specs.Known.{Known, nothing, payable}
 use Rattle.settlement.specs.Promises.{IsSoundCall}
-use Rattle.settlement.specs.Standings.{is_closed, standing_cents}
+use Rattle.settlement.specs.Standings.{is_closed}
 use Rattle.settlement.specs.Starting.{Begins}
 use Rattle.settlement.specs.declared.book.Book.{Book}
 use Rattle.settlement.specs.declared.fault.BookFault.{BookFault}
 use Rattle.settlement.specs.declared.quarter.Quarter.{Quarter}
 use Rattle.settlement.specs.declared.quarter.Quarter.TheVariants.{Blank, Priced, Closed}
 use Rattle.settlement.proofs.Kept.{all_same, none_metered}
-use Rattle.settlement.proofs.Sums.{sum_same}
-use Rattle.exports.specs.BenchDays.{IsSameKnown, Buffers, Settled, has_price, QuarterOf, QuartersOf, meter_values, metered_all, metered_late, payments_over, quarters_in, settled_first, sheet_at, unmetered}
+use Rattle.settlement.proofs.Sums.{same_amount, same_payable}
+use Rattle.exports.specs.BenchDays.{Buffers, Settled, has_price, QuarterOf, QuartersOf, meter_values, metered_all, metered_late, payments_over, settled_first, sheet_at, unmetered}
+use Rattle.exports.specs.steps.DayBooks.{IsSameKnown, quarters_in}
 use Rattle.exports.proofs.Metering.{Took, took}
 
 -- WHAT IS KNOWN ALIKE
@@ -34,13 +35,8 @@ along k l m a b = record {
   paid = λ q y. a.paid q (omega (arith, b.parties)) ∙ b.paid q y;
 }
 
-same_amount : (k l : Known) (q : ℕ) → IsSameKnown k l → q < l.parties → imbalance_amount k q ≡ imbalance_amount l q
-same_amount k l q a y =
-    ap (λ n. sum_to n (λ p. k.imbalance p q *ℤ standing_cents (k.quarter p))) a.periods
-    ∙ sum_same l.periods _ _ (λ p x. let v = a.imbalance p q x y in let s = a.quarter p x in cc)
-
-same_payable : (k l : Known) (q : ℕ) → IsSameKnown k l → q < l.parties → payable k q ≡ payable l q
-same_payable k l q a y = let w = same_amount k l q a y in let p = a.paid q y in cc
+same_due : (k l : Known) (q : ℕ) → IsSameKnown k l → q < l.parties → payable k q ≡ payable l q
+same_due k l q a y = same_payable k l q (same_amount k l q a.periods (λ p x. a.imbalance p q x y) a.quarter) (a.paid q y)
 
 -- where one settlement pays into a buffer, so does another of which the same is known
 place : Known → List ℤ → ℕ → ℤ
@@ -51,7 +47,7 @@ unfolding place
 same_place k l xs q a =
     ap (λ n. cond (ltb q n) (payable k q) (get_or xs q (pos 0))) a.parties
     ∙ ⊎_elim
-    (λ (e : ltb q l.parties ≡ true). rw e (same_payable k l q a (ltb-true q l.parties e)))
+    (λ (e : ltb q l.parties ≡ true). rw e (same_due k l q a (ltb-true q l.parties e)))
     (λ (e : ltb q l.parties ≡ false). rw e refl)
     (cases_Bool (ltb q l.parties))
 
@@ -81,7 +77,7 @@ settled_alike n k l a = record {
   parties = a.parties;
   quarter = a.quarter;
   imbalance = a.imbalance;
-  paid = λ q y. let s = same_payable k l q a y in let p = a.paid q y in cc;
+  paid = λ q y. let s = same_due k l q a y in let p = a.paid q y in cc;
 }
 
 -- THE STEPS

@@ -8,7 +8,7 @@ use Rattle.std.proofs.lemmas.Bool.{cases_eq, le-leb, lt-leb}
 use Rattle.std.proofs.lemmas.List.{get_or-take, length-take-le}
 use Rattle.std.proofs.lemmas.List.Folds.{sum_by-replicate}
 use Rattle.std.proofs.lemmas.List.Sums.{sum_by-cons, sum_by-set}
-use Rattle.pricing.specs.Quotes.{Answer, IsQuoteOfSource as Quoted}
+use Rattle.pricing.specs.Quotes.{Answer, IsQuoteOfSource}
 use Rattle.pricing.specs.Rulings.{finnish}
 use Rattle.pricing.specs.declared.fault.QuoteFault.{QuoteFault}
 use Rattle.pricing.specs.declared.ruling.Net.{Net}
@@ -27,7 +27,8 @@ use Rattle.settlement.proofs.Checks.{never, period_within, pricing_accepted}
 use Rattle.settlement.proofs.Readings.{quarter_placed}
 use Rattle.sheet.specs.Sheets.{sheet_meaning}
 use Rattle.source.specs.Meanings.{Meaning}
-use Rattle.exports.specs.BenchDays.{QuarterOf, QuartersOf, has_price, quarters_in, sheet_at, sheet_start}
+use Rattle.exports.specs.BenchDays.{QuarterOf, QuartersOf, has_price, sheet_at, sheet_start}
+use Rattle.exports.specs.steps.DayBooks.{quarters_in}
 use Rattle.settlement.proofs.Kept.{written}
 
 none_either : (t : Bool) (x : List ℕ) → x ≡ [] → cond t x [] ≡ []
@@ -57,7 +58,7 @@ pub record PricedOne (b b' : Book) (i : ℕ) (s : List ℕ) (x : Result Quarter 
 no_fault : (k : Known) (i : ℕ) → i < k.periods → k.quarter i ≡ Blank → pricing_fault k i ≡ None
 no_fault k i l e = simp (period_within k i l, e)
 
-refused_by : (i : ℕ) (m : Meaning) (r : Rules) (f : BookFault) (a : Answer) → Quoted m r.code r.ruling a → Err f ≡ pricing_answer i a → (g : QuoteFault) × Quoted m r.code r.ruling (Err g)
+refused_by : (i : ℕ) (m : Meaning) (r : Rules) (f : BookFault) (a : Answer) → IsQuoteOfSource m r.code r.ruling a → Err f ≡ pricing_answer i a → (g : QuoteFault) × IsQuoteOfSource m r.code r.ruling (Err g)
 refused_by i m r f (Ok q) h e = never (Priced q) f (sym e)
 refused_by i m r f (Err g) h e = (g, h)
 

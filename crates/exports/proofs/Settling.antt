@@ -31,15 +31,15 @@ pub record SettledTo (k b : Book) (before after : List ℤ) (i : ℕ) : Type 0 w
   pub others : (q : ℕ) → i ≤ q → get_or after q (pos 0) ≡ get_or before q (pos 0)
 
 -- what a book owes hangs on its periods, quarters, imbalances and payments
-same_payable : (k b : Book) (q : ℕ) → b.period_count ≡ k.period_count → b.quarters ≡ k.quarters → imbalances_in b ≡ imbalances_in k → paid_to b q ≡ paid_to k q → payable (in_book b) q ≡ payable (in_book k) q
-same_payable k b q n e f g = simp (n, e, f, g)
+owes_the_same : (k b : Book) (q : ℕ) → b.period_count ≡ k.period_count → b.quarters ≡ k.quarters → imbalances_in b ≡ imbalances_in k → paid_to b q ≡ paid_to k q → payable (in_book b) q ≡ payable (in_book k) q
+owes_the_same k b q n e f g = simp (n, e, f, g)
 
 pub accepted : (k b b' : Book) (before after : List ℤ) (i : ℕ) (x : Amount) → i < length before → SettledTo k b before after i → IsSoundCall (settling i (Ok x)) b b' → SettledTo k b' before (set after i x.cents) (i + 1)
 accepted k b b' before after i x l s w =
     let f : Paid b b' i (record { cents = (paid_to b i).cents +ℤ x.cents }) = w.did.changes in
     let a = passed (party_fault (in_book b) i) (payable (in_book b) i) x.cents w.did.answered in
     let has : i < b.party_count = party_known (in_book b) i a.0 in
-    let due : x.cents ≡ payable (in_book k) i = a.1 ∙ same_payable k b i s.counts.0 s.quarters s.imbalances (s.unpaid i (omega arith)) in
+    let due : x.cents ≡ payable (in_book k) i = a.1 ∙ owes_the_same k b i s.counts.0 s.quarters s.imbalances (s.unpaid i (omega arith)) in
     let place : i < length (payments_in b) = amount_placed b i has in
     let within : i < length after = omega (arith, s.length) in
     record {

@@ -1,15 +1,14 @@
 -- A day in the book, for the bench: which quarters are priced, what is metered, and what the parties are paid.
-use Rattle.std.specs.Prelude.{◌≡◌, ℕ, zero, suc, ◌*◌, ◌<◌, Bool, false, true, cond, ◌&&◌, List, [], ◌∷◌, length, map, ℤ, pos, ◌+ℤ◌, ◌-ℤ◌, Some, None, Option, Ok, Err, ◌==◌, count_by, is_some, nat_le, nat_lt, slice_index, slice_index_or, take}
+use Rattle.std.specs.Prelude.{◌≡◌, ℕ, zero, suc, ◌*◌, ◌<◌, Bool, false, true, ◌&&◌, List, [], ◌∷◌, length, map, ℤ, pos, ◌+ℤ◌, ◌-ℤ◌, Some, None, Option, Ok, Err, ◌==◌, count_by, is_some, nat_le, nat_lt, slice_index, slice_index_or, if◌then◌else◌}
 use Rattle.std.specs.List.{range_with_len, slice_range}
 use Rattle.metering.specs.Imbalances.{Values, imbalance}
-use Rattle.pricing.specs.Quotes.{IsQuoteOfSource as Quoted}
+use Rattle.pricing.specs.Quotes.{IsQuoteOfSource}
 use Rattle.pricing.specs.Rulings.{finnish}
 use Rattle.pricing.specs.declared.fault.QuoteFault.{QuoteFault}
 use Rattle.settlement.specs.Known.{Known, payable}
 use Rattle.settlement.specs.Refusals.{count_number, count_place}
 use Rattle.settlement.specs.Standings.{quote_in}
 use Rattle.settlement.specs.declared.fault.CountFault.{CountFault}
-use Rattle.settlement.specs.declared.book.Book.{Book}
 use Rattle.settlement.specs.declared.quarter.Quarter.{Quarter}
 use Rattle.settlement.specs.declared.quarter.Quarter.TheVariants.{Blank, Priced, Closed}
 use Rattle.sheet.specs.Sheets.{sheet_meaning}
@@ -24,12 +23,12 @@ sheet_start ends (suc p) = slice_index ends p
 
 -- a quarter's bytes, or none where its places are none of the sheets'
 abbrev pub sheet_at : List ℕ → List ℕ → ℕ → List ℕ
-sheet_at sheets ends p = cond (nat_le (slice_index ends p) (length sheets)) (slice_range sheets (sheet_start ends p) (slice_index ends p)) []
+sheet_at sheets ends p = if nat_le (slice_index ends p) (length sheets) then slice_range sheets (sheet_start ends p) (slice_index ends p) else []
 
 -- a quarter has its sheet's quote under code 5, and is blank where that is refused
 abbrev pub QuarterOf : List ℕ → Quarter → Type 0
-QuarterOf s (Priced q) = Quoted (sheet_meaning s) 5 finnish (Ok q)
-QuarterOf s Blank = (f : QuoteFault) × Quoted (sheet_meaning s) 5 finnish (Err f)
+QuarterOf s (Priced q) = IsQuoteOfSource (sheet_meaning s) 5 finnish (Ok q)
+QuarterOf s Blank = (f : QuoteFault) × IsQuoteOfSource (sheet_meaning s) 5 finnish (Err f)
 QuarterOf s (Closed q) = ⊥
 
 -- each quarter is priced from its own sheet
@@ -37,6 +36,7 @@ pub record QuartersOf (sheets ends : List ℕ) (quarters : List Quarter) : Type 
   pub count : length quarters ≡ length ends
   pub each : (p : ℕ) → p < length ends → QuarterOf (sheet_at sheets ends p) (slice_index_or quarters p Blank)
 
+-- whether a price stands
 abbrev pub has_price : Quarter → Bool
 has_price x = is_some (quote_in x)
 
@@ -60,17 +60,17 @@ metered_all k = record k { imbalance = λ p q. imbalance (meter_values p q (pos 
 
 -- party 0 is metered again in the last period, with 65 kWh more
 abbrev pub metered_late : Known → Known
-metered_late k = record k { imbalance = λ p q. cond ((suc p == k.periods) && (q == 0)) (imbalance (meter_values p q (pos 65))) (k.imbalance p q) }
+metered_late k = record k { imbalance = λ p q. if (suc p == k.periods) && (q == 0) then imbalance (meter_values p q (pos 65)) else k.imbalance p q }
 
 -- PAYMENTS
 
 -- the first n parties are settled
 abbrev pub settled_first : ℕ → Known → Known
-settled_first n k = record k { paid = λ q. cond (nat_lt q n) (k.paid q +ℤ payable k q) (k.paid q) }
+settled_first n k = record k { paid = λ q. if nat_lt q n then k.paid q +ℤ payable k q else k.paid q }
 
 -- each party of the book has its payment in its place; the other places keep what stood there
 abbrev pub payments_over : Known → List ℤ → List ℤ
-payments_over k xs = map (λ q. cond (nat_lt q k.parties) (payable k q) (slice_index_or xs q (pos 0))) (range_with_len 0 (length xs))
+payments_over k xs = map (λ q. if nat_lt q k.parties then payable k q else slice_index_or xs q (pos 0)) (range_with_len 0 (length xs))
 
 -- THE DAY
 
@@ -100,17 +100,3 @@ pub record Settled (sheets ends : List ℕ) (m : ℕ) (before after : Buffers) (
 abbrev pub DayOf : Option CountFault → List ℕ → List ℕ → ℕ → Buffers → Buffers → PlainDay → Type 0
 DayOf (Some f) sheets ends m before after d = NotStarted f before after d
 DayOf None sheets ends m before after d = Settled sheets ends m before after d
-
--- THE BOOK ON THE WAY
-
--- the quarters of a book's periods, one after another
-abbrev pub quarters_in : Book → List Quarter
-quarters_in b = take b.period_count b.quarters
-
--- what is known of two settlements is the same
-pub record IsSameKnown (k k' : Known) : Type 0 where
-  pub periods : k.periods ≡ k'.periods
-  pub parties : k.parties ≡ k'.parties
-  pub quarter : (p : ℕ) → p < k'.periods → k.quarter p ≡ k'.quarter p
-  pub imbalance : (p q : ℕ) → p < k'.periods → q < k'.parties → k.imbalance p q ≡ k'.imbalance p q
-  pub paid : (q : ℕ) → q < k'.parties → k.paid q ≡ k'.paid q

@@ -1,2 +1,3 @@
 pub mod BenchDays
 pub mod Quarters
+pub mod steps

@@ -1,7 +1,8 @@
 // A day in the book, to measure what a day costs: quarters priced from their sheets, parties metered with values that
 // are made up here, settled, one late value, and settled again.
 ghost use Rattle.std.specs.Prelude.{◌≡◌, ℕ, ◌<◌, ◌≤◌, false, count_by, length, unsigned_abs};
-ghost use Rattle.exports.specs.BenchDays.{Buffers, DayOf, IsSameKnown, QuartersOf, has_price, meter_values, metered_all, not_started, payments_over, quarters_in, settled_first};
+ghost use Rattle.exports.specs.BenchDays.{Buffers, DayOf, QuartersOf, has_price, meter_values, metered_all, not_started, payments_over, settled_first};
+ghost use Rattle.exports.specs.steps.DayBooks.{IsSameKnown, quarters_in};
 ghost use Rattle.settlement.specs.Books.{IsFresh, in_book, quarter_at};
 ghost use Rattle.settlement.specs.Changes.{SameCounts};
 ghost use Rattle.settlement.specs.Events.{metering};

@@ -1,8 +1,9 @@
 -- Checks that are passed, and answers that are accepted or refused by them.
 use Rattle.std.proofs.Common.{◌≡◌, ℕ, ◌<◌, ◌≤◌, Bool, true, false, Some, None, Ok, Err, Option, Result, refl, ap, arith}
-use Rattle.std.proofs.lemmas.Bool.{ltb-true, lt-ltb, le-ltb, not-true}
-use Rattle.metering.specs.Imbalances.{or_next, unless}
-use Rattle.pricing.specs.Quotes.{Answer, IsQuoteOfSource as Quoted}
+use Rattle.std.proofs.lemmas.Bool.{ltb-true, lt-ltb, le-ltb}
+use Rattle.std.specs.Prelude.{if◌then◌else◌}
+use Rattle.std.specs.Option.{option_or}
+use Rattle.pricing.specs.Quotes.{Answer, IsQuoteOfSource}
 use Rattle.pricing.specs.declared.quote.Quote.{Quote}
 use Rattle.source.specs.Meanings.{Meaning}
 use Rattle.settlement.specs.Answers.{IsPricingAnswer, QuotedAt, Rules, closed_fault, closing_answer, party_fault, period_fault, pricing_answer, pricing_fault, unless_refused}
@@ -16,38 +17,44 @@ use Rattle.settlement.specs.declared.quarter.Quarter.TheVariants.{Blank, Priced,
 pub never : {X F P : Type 0} (x : X) (f : F) → ◌≡◌ {A = Result X F} (Ok x) (Err f) → P
 never x f e = let z : ◌≡◌ {A = ℕ} 0 1 = cc in absurd (omega arith)
 
-pub or_none : {F : Type 0} (a b : Option F) → or_next a b ≡ None → (a ≡ None) × (b ≡ None)
+pub or_none : {F : Type 0} (a b : Option F) → option_or a b ≡ None → (a ≡ None) × (b ≡ None)
 or_none None b e = (refl, e)
 or_none (Some f) b e = let z : ◌≡◌ {A = ℕ} 0 1 = cc in absurd (omega arith)
 
-pub unless_none : {F : Type 0} (t : Bool) (f : F) → unless t f ≡ None → t ≡ true
-unless_none true f e = refl
-unless_none false f e = let z : ◌≡◌ {A = ℕ} 0 1 = cc in absurd (omega arith)
+-- a check that is passed
+passed : {F : Type 0} (t : Bool) (f : F) → (if t then None else Some f) ≡ None → t ≡ true
+passed true f e = refl
+passed false f e = let z : ◌≡◌ {A = ℕ} 0 1 = cc in absurd (omega arith)
+
+-- what is refused where it holds, and is passed
+fails : {F : Type 0} (t : Bool) (f : F) → (if t then Some f else None) ≡ None → t ≡ false
+fails true f e = let z : ◌≡◌ {A = ℕ} 0 1 = cc in absurd (omega arith)
+fails false f e = refl
 
 pub taken : {X F : Type 0} (o : Option F) (a : Result X F) (z : X) → Ok z ≡ unless_refused o a → (o ≡ None) × (Ok z ≡ a)
 taken None a z e = (refl, e)
 taken (Some f) a z e = never z f e
 
 pub period_within : (k : Known) (p : ℕ) → p < k.periods → period_fault k p ≡ None
-period_within k p l = ap (λ t. unless t (PeriodOutOfRange p)) (lt-ltb p k.periods l)
+period_within k p l = ap (λ t. if t then None else Some (PeriodOutOfRange p)) (lt-ltb p k.periods l)
 
 pub period_past : (k : Known) (p : ℕ) → k.periods ≤ p → period_fault k p ≡ Some (PeriodOutOfRange p)
-period_past k p l = ap (λ t. unless t (PeriodOutOfRange p)) (le-ltb p k.periods l)
+period_past k p l = ap (λ t. if t then None else Some (PeriodOutOfRange p)) (le-ltb p k.periods l)
 
 pub period_known : (k : Known) (p : ℕ) → period_fault k p ≡ None → p < k.periods
-period_known k p e = ltb-true p k.periods (unless_none _ _ e)
+period_known k p e = ltb-true p k.periods (passed _ _ e)
 
 pub party_within : (k : Known) (q : ℕ) → q < k.parties → party_fault k q ≡ None
-party_within k q l = ap (λ t. unless t (PartyOutOfRange q)) (lt-ltb q k.parties l)
+party_within k q l = ap (λ t. if t then None else Some (PartyOutOfRange q)) (lt-ltb q k.parties l)
 
 pub party_past : (k : Known) (q : ℕ) → k.parties ≤ q → party_fault k q ≡ Some (PartyOutOfRange q)
-party_past k q l = ap (λ t. unless t (PartyOutOfRange q)) (le-ltb q k.parties l)
+party_past k q l = ap (λ t. if t then None else Some (PartyOutOfRange q)) (le-ltb q k.parties l)
 
 pub party_known : (k : Known) (q : ℕ) → party_fault k q ≡ None → q < k.parties
-party_known k q e = ltb-true q k.parties (unless_none _ _ e)
+party_known k q e = ltb-true q k.parties (passed _ _ e)
 
 pub open_quarter : (k : Known) (p : ℕ) → closed_fault k p ≡ None → is_closed (k.quarter p) ≡ false
-open_quarter k p e = not-true _ (unless_none _ _ e)
+open_quarter k p e = fails _ _ e
 
 -- an accepted pricing: the quarter is not closed, and is priced by the quote
 pub record Accepted (k : Known) (p : ℕ) (m : Meaning) (r : Rules) (x : Quarter) : Type 0 where
@@ -55,9 +62,9 @@ pub record Accepted (k : Known) (p : ℕ) (m : Meaning) (r : Rules) (x : Quarter
   pub unclosed : is_closed (k.quarter p) ≡ false
   pub quote : Quote
   pub is : x ≡ Priced quote
-  pub quoted : Quoted m r.code r.ruling (Ok quote)
+  pub quoted : IsQuoteOfSource m r.code r.ruling (Ok quote)
 
-quote_of : (p : ℕ) (m : Meaning) (r : Rules) (x : Quarter) (a : Answer) → Quoted m r.code r.ruling a → Ok x ≡ pricing_answer p a → (q : Quote) × (x ≡ Priced q) × Quoted m r.code r.ruling (Ok q)
+quote_of : (p : ℕ) (m : Meaning) (r : Rules) (x : Quarter) (a : Answer) → IsQuoteOfSource m r.code r.ruling a → Ok x ≡ pricing_answer p a → (q : Quote) × (x ≡ Priced q) × IsQuoteOfSource m r.code r.ruling (Ok q)
 quote_of p m r x (Ok q) h e = (q, cc, h)
 quote_of p m r x (Err f) h e = never x _ e
 

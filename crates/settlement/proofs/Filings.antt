@@ -4,10 +4,10 @@ use borrow.Author.Differences.{ints}
 use Rattle.figures.specs.Gathering.{Gives}
 use Rattle.figures.specs.declared.quarter_figures.Figures.{Figures}
 use Rattle.pricing.proofs.Bounding.{quote_bounded}
-use Rattle.pricing.specs.Bounds.{IsBounded as Bounded, IsBoundedIn as BoundedBy}
+use Rattle.pricing.specs.Bounds.{IsBounded, IsBoundedIn}
 use Rattle.pricing.specs.FourLaws.{KeepsLaws}
-use Rattle.pricing.specs.Outcomes.{Outcome, avoided, directed as ruled}
-use Rattle.pricing.specs.Quotes.{IsQuote as Quotes, IsQuoteOfSource as Quoted, quoted_direction as standing}
+use Rattle.pricing.specs.Outcomes.{Outcome, avoided, directed}
+use Rattle.pricing.specs.Quotes.{IsQuote, IsQuoteOfSource, quoted_direction}
 use Rattle.pricing.specs.declared.quote.Quote.{Quote}
 use Rattle.pricing.specs.declared.quote.QuoteDirection.{QuoteDirection}
 use Rattle.pricing.specs.declared.quote.QuoteDirection.TheVariants.{Up, Down, Avoided}
@@ -27,20 +27,20 @@ use Rattle.settlement.specs.declared.quarter.Quarter.{Quarter}
 use Rattle.settlement.specs.declared.quarter.Quarter.TheVariants.{Priced}
 use Rattle.settlement.proofs.Checks.{never}
 
-code_of : (code : ℕ) (o : Outcome) (a : Option Price) (q : Quote) → Quotes code o a (Ok q) → q.code ≡ code
-code_of code (ruled d x) a q h = let i = h.is in cc
+code_of : (code : ℕ) (o : Outcome) (a : Option Price) (q : Quote) → IsQuote code o a (Ok q) → q.code ≡ code
+code_of code (directed d x) a q h = let i = h.is in cc
 code_of code avoided (Some v) q h = cc
 code_of code avoided None q h = never q _ h
 
 -- the price is the exact one, rounded
-rounds : (code : ℕ) (d : Direction) (x : Exact) (a : Option Price) (q : Quote) → Quotes code (ruled d x) a (Ok q) → (q.direction ≡ standing d) × (q.price.cents ≡ rounded x.n x.d)
+rounds : (code : ℕ) (d : Direction) (x : Exact) (a : Option Price) (q : Quote) → IsQuote code (directed d x) a (Ok q) → (q.direction ≡ quoted_direction d) × (q.price.cents ≡ rounded x.n x.d)
 rounds code d x a q h =
     let i = h.is in
     let e : q.price ≡ h.price = cc in
     (cc, ap (λ (p : Price). p.cents) e ∙ h.at)
 
-stands_for : (code : ℕ) (net : Net) (f : Figures) (o : Outcome) (a : Option Price) (q : Quote) → KeepsLaws net f o → Quotes code o a (Ok q) → StandsFor o a q
-stands_for code net f (ruled d x) a q laws h =
+stands_for : (code : ℕ) (net : Net) (f : Figures) (o : Outcome) (a : Option Price) (q : Quote) → KeepsLaws net f o → IsQuote code o a (Ok q) → StandsFor o a q
+stands_for code net f (directed d x) a q laws h =
     let s = rounds code d x a q h in
     let some = laws.formed.divides in
     (s.0, record { divides = some; close = rw s.1 (nearest_rounded x.n x.d some).close })
@@ -49,27 +49,27 @@ stands_for code net f avoided (Some v) q laws h =
     (cc, record { divides = omega arith; close = rw e (omega (arith, ints)) })
 stands_for code net f avoided None q laws h = never q _ h
 
-bounded_by : (code : ℕ) (net : Net) (f : Figures) (o : Outcome) (a : Option Price) (q : Quote) → KeepsLaws net f o → Quotes code o a (Ok q) → (q.direction ≡ Avoided → ⊥) → BoundedBy q.direction f q.price
-bounded_by code net f (ruled d x) a q laws h n =
+bounded_by : (code : ℕ) (net : Net) (f : Figures) (o : Outcome) (a : Option Price) (q : Quote) → KeepsLaws net f o → IsQuote code o a (Ok q) → (q.direction ≡ Avoided → ⊥) → IsBoundedIn q.direction f q.price
+bounded_by code net f (directed d x) a q laws h n =
     let s = rounds code d x a q h in
     let some = laws.formed.divides in
-    subst (λ (e : QuoteDirection). BoundedBy e f q.price) (sym s.0)
-    (quote_bounded net f (ruled d x) d x q.price laws refl
+    subst (λ (e : QuoteDirection). IsBoundedIn e f q.price) (sym s.0)
+    (quote_bounded net f (directed d x) d x q.price laws refl
     (subst (λ (z : ℤ). Nearest x.n x.d z) (sym s.1) (nearest_rounded x.n x.d some))
     (λ low high l g. subst (λ (z : ℤ). (low ≤ℤ z) × (z ≤ℤ high)) (sym s.1) (keeps_bounds x.n x.d low high some l g)))
 bounded_by code net f avoided (Some v) q laws h n = absurd (n cc)
 bounded_by code net f avoided None q laws h n = never q _ h
 
 -- the same, by what the source means
-by_meaning : (m : Meaning) (f : Figures) (d : QuoteDirection) (p : Price) → Gives m f → ((d ≡ Avoided → ⊥) → BoundedBy d f p) → WithinBounds d m p.cents
-by_meaning m f Up p g b = subst (λ s. Bounded dir.Up s p.cents) g.ups (b (λ e. let z : ◌≡◌ {A = ℕ} 0 1 = cc in omega arith))
-by_meaning m f Down p g b = subst (λ s. Bounded dir.Down s p.cents) g.downs (b (λ e. let z : ◌≡◌ {A = ℕ} 0 1 = cc in omega arith))
+by_meaning : (m : Meaning) (f : Figures) (d : QuoteDirection) (p : Price) → Gives m f → ((d ≡ Avoided → ⊥) → IsBoundedIn d f p) → WithinBounds d m p.cents
+by_meaning m f Up p g b = subst (λ s. IsBounded dir.Up s p.cents) g.ups (b (λ e. let z : ◌≡◌ {A = ℕ} 0 1 = cc in omega arith))
+by_meaning m f Down p g b = subst (λ s. IsBounded dir.Down s p.cents) g.downs (b (λ e. let z : ◌≡◌ {A = ℕ} 0 1 = cc in omega arith))
 by_meaning m f Avoided p g b = tt
 
 abbrev pub filed : Meaning → Rules → Quarter → Filing
 filed m r x = record { source = m; rules = r; quarter = x }
 
-pub right : (m : Meaning) (r : Rules) (x : Quarter) (q : Quote) → IsLawfulRulebook r → x ≡ Priced q → Quoted m r.code r.ruling (Ok q) → RightPrice (filed m r x) x
+pub right : (m : Meaning) (r : Rules) (x : Quarter) (q : Quote) → IsLawfulRulebook r → x ≡ Priced q → IsQuoteOfSource m r.code r.ruling (Ok q) → RightPrice (filed m r x) x
 right m r x q laws e h = record {
   quote = q;
   filed = ap quote_in e;
@@ -79,7 +79,7 @@ right m r x q laws e h = record {
   stands = stands_for r.code r.net h.figures (r.ruling h.figures) m.avoided q (laws h.figures) h.quotes;
 }
 
-pub within_bounds : (m : Meaning) (r : Rules) (q : Quote) → IsLawfulRulebook r → Quoted m r.code r.ruling (Ok q) → WithinBounds q.direction m q.price.cents
+pub within_bounds : (m : Meaning) (r : Rules) (q : Quote) → IsLawfulRulebook r → IsQuoteOfSource m r.code r.ruling (Ok q) → WithinBounds q.direction m q.price.cents
 within_bounds m r q laws h =
     by_meaning m h.figures q.direction q.price h.gives
     (bounded_by r.code r.net h.figures (r.ruling h.figures) m.avoided q (laws h.figures) h.quotes)

@@ -1,16 +1,15 @@
 -- Each call keeps that the book holds what the run says.
-use Rattle.std.proofs.Common.{◌≡◌, ℕ, zero, suc, ◌<◌, Bool, true, false, not, ◌&&◌, eqb, ◌≢◌, List, [], ◌∷◌, length, get_or, set, replicate, ℤ, ◌+ℤ◌, ◌-ℤ◌, ◌*ℤ◌, Some, None, Ok, Err, is_some, Option, sym, refl, ap, ◌∙◌, subst, ⊎_elim, arith, get_or-set_other, get_or-set_same}
+use Rattle.std.proofs.Common.{◌≡◌, ℕ, zero, suc, ◌<◌, Bool, true, false, ◌&&◌, eqb, ◌≢◌, List, [], ◌∷◌, length, get_or, set, replicate, ℤ, ◌+ℤ◌, Some, None, Ok, Err, is_some, Option, sym, refl, ap, ◌∙◌, subst, ⊎_elim, arith, get_or-set_other, get_or-set_same}
 use borrow.Author.Differences.{ints}
-use Rattle.std.specs.Option.{option_map}
+use Rattle.std.specs.Option.{option_map, option_or}
 use Rattle.std.specs.Prelude.{if◌then◌else◌}
 use Rattle.std.proofs.lemmas.Bool.{eqb-true, eq-eqb, ne_eqb, cases_Bool, cases_eq, and_parts, and_from}
-use Rattle.metering.specs.Imbalances.{Values, balanced, imbalance, kwh_of, metering_fault, or_next, unless, unless_fault}
+use Rattle.metering.specs.Imbalances.{Values, balanced, imbalance, kwh_of, metering_fault, unless_fault}
 use Rattle.metering.proofs.Positions.{passed}
 use Rattle.metering.specs.declared.imbalance.Imbalance.{Imbalance}
 use Rattle.pricing.specs.declared.quote.Quote.{Quote}
 use Rattle.source.specs.Meanings.{Meaning}
 use Rattle.units.proofs.Rounds.{nearest_rounded}
-use Rattle.units.specs.Rounding.{rounded}
 use Rattle.units.specs.declared.euros.Amount.{Amount}
 use Rattle.settlement.specs.Answers.{IsLawfulRulebook, IsPricingAnswer, Rules, closing_answer, metering_call_fault, party_fault, period_fault, unless_refused}
 use Rattle.settlement.specs.Books.{IsFresh, imbalance_at, imbalances_in, imbalances_of, in_book, paid_to, payments_in, quarter_at}
@@ -19,7 +18,7 @@ use Rattle.settlement.specs.Events.{Answered, Changes, Did, Event, closing, mete
 use Rattle.settlement.specs.Known.{imbalance_amount, nothing, payable}
 use Rattle.settlement.specs.Promises.{AllAnswered, AllFairlyPaid, FairlyPaid, IsSoundCall, RightPrice, Sound, WithinBounds}
 use Rattle.settlement.specs.Runs.{Filing, Run, after, after_run, begun, imbalance_after, last_pricing, payments_since, quarter_after, stands_as, was_closed}
-use Rattle.settlement.specs.Standings.{closed_as, is_closed, quote_in, standing_cents}
+use Rattle.settlement.specs.Standings.{closed_as, is_closed, quote_in}
 use Rattle.settlement.specs.declared.book.Book.{Book}
 use Rattle.settlement.specs.declared.fault.BookFault.TheVariants.{QuarterClosed, Metering}
 use Rattle.settlement.specs.declared.party.Party.{Party}
@@ -29,7 +28,7 @@ use Rattle.settlement.proofs.Checks.{Accepted, Shut, closing_accepted, or_none, 
 use Rattle.settlement.proofs.Filings.{filed, right, within_bounds}
 use Rattle.settlement.proofs.Only.{only}
 use Rattle.settlement.proofs.Readings.{amount_placed, imbalance_of, paid_of, quarter_of, quarter_placed, row_placed, imbalance_placed}
-use Rattle.settlement.proofs.Sums.{sum_same}
+use Rattle.settlement.proofs.Sums.{same_amount, same_payable}
 
 abbrev Bounds : Filing → Type 0
 Bounds f = (q : Quote) → quote_in f.quarter ≡ Some q → WithinBounds q.direction f.source q.price.cents
@@ -70,7 +69,7 @@ quote_same : (p q : Quote) (x : Quarter) → x ≡ Priced p → quote_in x ≡ S
 quote_same p q x e f = let g : quote_in x ≡ Some p = ap quote_in e in cc
 
 -- the last accepted pricing is the new one, or the one before
-last_is : (t : Bool) (o : Option Filing) (f g : Filing) (P : Filing → Type 0) → or_next (if t then Some f else None) o ≡ Some g → P f → (o ≡ Some g → P g) → P g
+last_is : (t : Bool) (o : Option Filing) (f g : Filing) (P : Filing → Type 0) → option_or (if t then Some f else None) o ≡ Some g → P f → (o ≡ Some g → P g) → P g
 last_is true o f g P e new old = let same : f ≡ g = cc in subst P same new
 last_is false o f g P e new old = old e
 
@@ -209,18 +208,16 @@ step h (settling q (Err f)) b b' d k = unchanged _ h b b' d.changes (record { st
 
 -- THE ANSWER, BY THE RUN
 
-same_amount : (h : List Event) (b : Book) (q : ℕ) → Reached h b → imbalance_amount (in_book b) q ≡ imbalance_amount (after_run b.period_count b.party_count h) q
-same_amount h b q k =
-    sum_same b.period_count (λ p. (imbalance_at b p q).kwh *ℤ standing_cents (quarter_at b p)) (λ p. imbalance_after h p q *ℤ standing_cents (quarter_after h p))
-    (λ p lp. ap (λ (v : ℤ). v *ℤ standing_cents (quarter_at b p)) (k.imbalances p q) ∙ ap (λ (x : Quarter). imbalance_after h p q *ℤ standing_cents x) (k.standings p))
+payable_after : (h : List Event) (b : Book) (q : ℕ) → Reached h b → payable (in_book b) q ≡ payable (after_run b.period_count b.party_count h) q
+payable_after h b q k =
+    let known = after_run b.period_count b.party_count h in
+    same_payable (in_book b) known q (same_amount (in_book b) known q refl (λ p l. k.imbalances p q) (λ p l. k.standings p)) (k.payments q)
 
 answered_after : (h : List Event) (e : Event) (b : Book) → Reached h b → Answered (in_book b) e → Answered (after_run b.period_count b.party_count h) e
-answered_after h (pricing p m r a) b k d = subst (λ (x : Quarter). IsPricingAnswer (or_next (period_fault (in_book b) p) (unless (not (is_closed x)) (QuarterClosed p))) p m r a) (k.standings p) d
-answered_after h (metering p q v a) b k d = subst (λ (x : Quarter). kwh_of a ≡ unless_fault (or_next (period_fault (in_book b) p) (or_next (party_fault (in_book b) q) (or_next (unless (not (is_closed x)) (QuarterClosed p)) (option_map Metering (metering_fault v))))) (imbalance v)) (k.standings p) d
+answered_after h (pricing p m r a) b k d = subst (λ (x : Quarter). IsPricingAnswer (option_or (period_fault (in_book b) p) (if is_closed x then Some (QuarterClosed p) else None)) p m r a) (k.standings p) d
+answered_after h (metering p q v a) b k d = subst (λ (x : Quarter). kwh_of a ≡ unless_fault (option_or (period_fault (in_book b) p) (option_or (party_fault (in_book b) q) (option_or (if is_closed x then Some (QuarterClosed p) else None) (option_map Metering (metering_fault v))))) (imbalance v)) (k.standings p) d
 answered_after h (closing p a) b k d = subst (λ (x : Quarter). a ≡ unless_refused (period_fault (in_book b) p) (closing_answer p x)) (k.standings p) d
-answered_after h (settling q a) b k d =
-    d ∙ ap (unless_fault (party_fault (in_book b) q))
-    (ap (λ (t : ℤ). rounded t 1000 -ℤ (paid_to b q).cents) (same_amount h b q k) ∙ ap (λ (z : ℤ). rounded (imbalance_amount (after_run b.period_count b.party_count h) q) 1000 -ℤ z) (k.payments q))
+answered_after h (settling q a) b k d = d ∙ ap (unless_fault (party_fault (in_book b) q)) (payable_after h b q k)
 
 fair : (n m : ℕ) (h : List Event) (e : Event) → Answered (after_run n m h) e → FairlyPaid n m (e ∷ h)
 fair n m h (pricing p s r a) d = tt

@@ -1,11 +1,12 @@
 -- Each answer of the code is the one that what is known gives.
-use Rattle.std.proofs.Common.{◌≡◌, ℕ, ◌<◌, ◌≤◌, true, false, not, ℤ, ◌+ℤ◌, ◌-ℤ◌, nat_abs, Some, None, Ok, Err, Option, Result, sym, refl, ap, ◌∙◌, subst, arith, w64, SFits, to_z, of_z}
+use Rattle.std.proofs.Common.{◌≡◌, ℕ, ◌<◌, ◌≤◌, true, false, ℤ, ◌+ℤ◌, ◌-ℤ◌, nat_abs, Some, None, Ok, Err, Option, Result, sym, refl, ap, ◌∙◌, subst, arith, w64, SFits, to_z, of_z}
 use borrow.Author.Differences.{ints}
-use Rattle.std.specs.Option.{option_map}
-use Rattle.metering.specs.Imbalances.{Values, imbalance, imbalance_of, kwh_of, metering_fault, or_next, unless, unless_fault}
+use Rattle.std.specs.Prelude.{if◌then◌else◌}
+use Rattle.std.specs.Option.{option_map, option_or}
+use Rattle.metering.specs.Imbalances.{Values, imbalance, imbalance_of, kwh_of, metering_fault, unless_fault}
 use Rattle.metering.specs.declared.fault.MeteringFault.{MeteringFault}
 use Rattle.metering.specs.declared.imbalance.Imbalance.{Imbalance}
-use Rattle.pricing.specs.Quotes.{Answer, IsQuoteOfSource as Quoted}
+use Rattle.pricing.specs.Quotes.{Answer, IsQuoteOfSource}
 use Rattle.source.specs.Meanings.{Meaning}
 use Rattle.settlement.specs.Answers.{IsPricingAnswer, Rules, closed_fault, closing_answer, metering_call_fault, party_fault, period_fault, pricing_fault, unless_refused}
 use Rattle.settlement.specs.Known.{Known, payable}
@@ -21,15 +22,15 @@ use Rattle.settlement.proofs.Checks.{never, party_past, party_within, period_pas
 -- PRICING
 
 pub price_past : (k : Known) (p : ℕ) (m : Meaning) (r : Rules) → k.periods ≤ p → IsPricingAnswer (pricing_fault k p) p m r (Err (PeriodOutOfRange p))
-price_past k p m r l = subst (λ o. IsPricingAnswer (or_next o (closed_fault k p)) p m r (Err (PeriodOutOfRange p))) (sym (period_past k p l)) refl
+price_past k p m r l = subst (λ o. IsPricingAnswer (option_or o (closed_fault k p)) p m r (Err (PeriodOutOfRange p))) (sym (period_past k p l)) refl
 
-meets_price : (p : ℕ) (m : Meaning) (r : Rules) (a : Result Quarter BookFault) (x : Answer) (y : Quarter) → Quoted m r.code r.ruling x → a ≡ meets p y (Price x) → IsPricingAnswer (unless (not (is_closed y)) (QuarterClosed p)) p m r a
+meets_price : (p : ℕ) (m : Meaning) (r : Rules) (a : Result Quarter BookFault) (x : Answer) (y : Quarter) → IsQuoteOfSource m r.code r.ruling x → a ≡ meets p y (Price x) → IsPricingAnswer (if is_closed y then Some (QuarterClosed p) else None) p m r a
 meets_price p m r a x Blank h e = record { quote = x; quoted = h; answer = e }
 meets_price p m r a x (Priced q) h e = record { quote = x; quoted = h; answer = e }
 meets_price p m r a x (Closed q) h e = e
 
-pub price_answered : (k : Known) (p : ℕ) (m : Meaning) (r : Rules) (a : Result Quarter BookFault) (x : Answer) → p < k.periods → Quoted m r.code r.ruling x → a ≡ meets p (k.quarter p) (Price x) → IsPricingAnswer (pricing_fault k p) p m r a
-price_answered k p m r a x l h e = subst (λ o. IsPricingAnswer (or_next o (closed_fault k p)) p m r a) (sym (period_within k p l)) (meets_price p m r a x (k.quarter p) h e)
+pub price_answered : (k : Known) (p : ℕ) (m : Meaning) (r : Rules) (a : Result Quarter BookFault) (x : Answer) → p < k.periods → IsQuoteOfSource m r.code r.ruling x → a ≡ meets p (k.quarter p) (Price x) → IsPricingAnswer (pricing_fault k p) p m r a
+price_answered k p m r a x l h e = subst (λ o. IsPricingAnswer (option_or o (closed_fault k p)) p m r a) (sym (period_within k p l)) (meets_price p m r a x (k.quarter p) h e)
 
 -- CLOSING
 
@@ -67,23 +68,23 @@ refuses_values p (Priced q) f e = never (Priced q) f (sym e)
 refuses_values p (Closed q) f e = (refl, cc)
 
 module _ (k : Known) (p q : ℕ) (v : Values) where
-  after_period : p < k.periods → metering_call_fault k p q v ≡ or_next (party_fault k q) (or_next (closed_fault k p) (option_map Metering (metering_fault v)))
-  after_period l = ap (λ o. or_next o (or_next (party_fault k q) (or_next (closed_fault k p) (option_map Metering (metering_fault v))))) (period_within k p l)
+  after_period : p < k.periods → metering_call_fault k p q v ≡ option_or (party_fault k q) (option_or (closed_fault k p) (option_map Metering (metering_fault v)))
+  after_period l = ap (λ o. option_or o (option_or (party_fault k q) (option_or (closed_fault k p) (option_map Metering (metering_fault v))))) (period_within k p l)
 
-  after_party : p < k.periods → q < k.parties → metering_call_fault k p q v ≡ or_next (closed_fault k p) (option_map Metering (metering_fault v))
-  after_party l m = after_period l ∙ ap (λ o. or_next o (or_next (closed_fault k p) (option_map Metering (metering_fault v)))) (party_within k q m)
+  after_party : p < k.periods → q < k.parties → metering_call_fault k p q v ≡ option_or (closed_fault k p) (option_map Metering (metering_fault v))
+  after_party l m = after_period l ∙ ap (λ o. option_or o (option_or (closed_fault k p) (option_map Metering (metering_fault v)))) (party_within k q m)
 
   after_closed : p < k.periods → q < k.parties → is_closed (k.quarter p) ≡ false → metering_call_fault k p q v ≡ option_map Metering (metering_fault v)
-  after_closed l m e = after_party l m ∙ ap (λ t. or_next (unless (not t) (QuarterClosed p)) (option_map Metering (metering_fault v))) e
+  after_closed l m e = after_party l m ∙ ap (λ t. option_or (if t then Some (QuarterClosed p) else None) (option_map Metering (metering_fault v))) e
 
   pub meter_past_period : k.periods ≤ p → Err (PeriodOutOfRange p) ≡ unless_fault (metering_call_fault k p q v) (imbalance v)
-  meter_past_period l = refused _ _ _ (ap (λ o. or_next o (or_next (party_fault k q) (or_next (closed_fault k p) (option_map Metering (metering_fault v))))) (period_past k p l))
+  meter_past_period l = refused _ _ _ (ap (λ o. option_or o (option_or (party_fault k q) (option_or (closed_fault k p) (option_map Metering (metering_fault v))))) (period_past k p l))
 
   pub meter_past_party : p < k.periods → k.parties ≤ q → Err (PartyOutOfRange q) ≡ unless_fault (metering_call_fault k p q v) (imbalance v)
-  meter_past_party l m = refused _ _ _ (after_period l ∙ ap (λ o. or_next o (or_next (closed_fault k p) (option_map Metering (metering_fault v)))) (party_past k q m))
+  meter_past_party l m = refused _ _ _ (after_period l ∙ ap (λ o. option_or o (option_or (closed_fault k p) (option_map Metering (metering_fault v)))) (party_past k q m))
 
   pub meter_closed : p < k.periods → q < k.parties → is_closed (k.quarter p) ≡ true → Err (QuarterClosed p) ≡ unless_fault (metering_call_fault k p q v) (imbalance v)
-  meter_closed l m e = refused _ _ _ (after_party l m ∙ ap (λ t. or_next (unless (not t) (QuarterClosed p)) (option_map Metering (metering_fault v))) e)
+  meter_closed l m e = refused _ _ _ (after_party l m ∙ ap (λ t. option_or (if t then Some (QuarterClosed p) else None) (option_map Metering (metering_fault v))) e)
 
   by_values : (o : Option MeteringFault) (z : ℤ) (a : Result Imbalance MeteringFault) (r : Result Imbalance BookFault) → kwh_of a ≡ unless_fault o z → r ≡ carried a → kwh_of r ≡ unless_fault (option_map Metering o) z
   by_values None z (Ok i) r e s = ap kwh_of s ∙ (let w : i.kwh ≡ z = cc in ap Ok w)

@@ -5,7 +5,7 @@ use Rattle.std.proofs.lemmas.Int.{to_z-of_z, unsigned_abs-mul}
 use Rattle.std.proofs.lemmas.Nat.{mul-le}
 use Rattle.units.proofs.Rounds.{nearest_rounded}
 use Rattle.units.specs.Rounding.{rounded}
-use Rattle.settlement.specs.Known.{sum_to}
+use Rattle.settlement.specs.Known.{Known, imbalance_amount, payable, sum_to}
 use Rattle.settlement.specs.Standings.{standing_cents}
 use Rattle.settlement.specs.declared.quarter.Quarter.{Quarter}
 use Rattle.settlement.specs.declared.quarter.Quarter.TheVariants.{Blank, Priced, Closed}
@@ -36,6 +36,16 @@ sum_same (suc n) f g h =
     let e = sum_same n f g (λ p l. h p (omega arith)) in
     let k = h n (omega arith) in
     cc
+
+-- T hangs on the periods, and on the imbalances and quarters of these
+pub same_amount : (k l : Known) (q : ℕ) → k.periods ≡ l.periods → ((p : ℕ) → p < l.periods → k.imbalance p q ≡ l.imbalance p q) → ((p : ℕ) → p < l.periods → k.quarter p ≡ l.quarter p) → imbalance_amount k q ≡ imbalance_amount l q
+same_amount k l q n v s =
+    ap (λ m. sum_to m (λ p. k.imbalance p q *ℤ standing_cents (k.quarter p))) n
+    ∙ sum_same l.periods _ _ (λ p h. let i = v p h in let x = s p h in cc)
+
+-- what is due hangs on what was paid besides
+pub same_payable : (k l : Known) (q : ℕ) → imbalance_amount k q ≡ imbalance_amount l q → k.paid q ≡ l.paid q → payable k q ≡ payable l q
+same_payable k l q t p = cc
 
 -- the cents that T comes to, and their size, where T is handed over as the machine's number
 pub due_small : (t r : ℤ) → nat_abs t ≤ 100 * 149_998_500_000_000 → r ≡ rounded (to_z w64 (of_z w64 t)) 1000 → (r ≡ rounded t 1000) × (nat_abs r ≤ 15_000_000_000_000)

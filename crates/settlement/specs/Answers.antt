@@ -1,11 +1,11 @@
 -- How each call is answered by what is known before it: its checks in their order, and its answer where all are passed.
-use Rattle.std.specs.Prelude.{◌≡◌, ℕ, not, ℤ, Some, None, Ok, Err, Option, Result, nat_lt}
-use Rattle.std.specs.Option.{option_map}
+use Rattle.std.specs.Prelude.{◌≡◌, ℕ, ℤ, Some, None, Ok, Err, Option, Result, nat_lt, if◌then◌else◌}
+use Rattle.std.specs.Option.{option_map, option_or}
 use Rattle.figures.specs.declared.quarter_figures.Figures.{Figures}
-use Rattle.metering.specs.Imbalances.{Values, metering_fault, or_next, unless}
-use Rattle.pricing.specs.Laws.{KeepsLaws}
+use Rattle.metering.specs.Imbalances.{Values, metering_fault}
+use Rattle.pricing.specs.FourLaws.{KeepsLaws}
 use Rattle.pricing.specs.Outcomes.{Outcome}
-use Rattle.pricing.specs.Quotes.{Answer, Quoted}
+use Rattle.pricing.specs.Quotes.{Answer, IsQuoteOfSource}
 use Rattle.pricing.specs.declared.ruling.Net.{Net}
 use Rattle.source.specs.Meanings.{Meaning}
 use Rattle.units.specs.declared.euros.Amount.{Amount}
@@ -20,27 +20,27 @@ use Rattle.settlement.specs.declared.quarter.Quarter.TheVariants.{Blank, Priced,
 
 -- 9: the period is not below the count
 abbrev pub period_fault : Known → ℕ → Option BookFault
-period_fault k p = unless (nat_lt p k.periods) (PeriodOutOfRange p)
+period_fault k p = if nat_lt p k.periods then None else Some (PeriodOutOfRange p)
 
 -- 10: the party is not below the count
 abbrev pub party_fault : Known → ℕ → Option BookFault
-party_fault k q = unless (nat_lt q k.parties) (PartyOutOfRange q)
+party_fault k q = if nat_lt q k.parties then None else Some (PartyOutOfRange q)
 
 -- 11: the quarter is closed
 abbrev pub closed_fault : Known → ℕ → Option BookFault
-closed_fault k p = unless (not (is_closed (k.quarter p))) (QuarterClosed p)
+closed_fault k p = if is_closed (k.quarter p) then Some (QuarterClosed p) else None
 
 -- the checks of a pricing before the quote's own: 9, 11
 abbrev pub pricing_fault : Known → ℕ → Option BookFault
-pricing_fault k p = or_next (period_fault k p) (closed_fault k p)
+pricing_fault k p = option_or (period_fault k p) (closed_fault k p)
 
 -- the checks of a metering: 9, 10, 11, 13
 abbrev pub metering_call_fault : Known → ℕ → ℕ → Values → Option BookFault
-metering_call_fault k p q v = or_next (period_fault k p) (or_next (party_fault k q) (or_next (closed_fault k p) (option_map Metering (metering_fault v))))
+metering_call_fault k p q v = option_or (period_fault k p) (option_or (party_fault k q) (option_or (closed_fault k p) (option_map Metering (metering_fault v))))
 
 -- the checks of a question on a party's imbalance: 9, 10
 abbrev pub place_fault : Known → ℕ → ℕ → Option BookFault
-place_fault k p q = or_next (period_fault k p) (party_fault k q)
+place_fault k p q = option_or (period_fault k p) (party_fault k q)
 
 -- the answer that is next, unless a check is not passed
 abbrev pub unless_refused : {X F : Type 0} → Option F → Result X F → Result X F
@@ -67,7 +67,7 @@ pricing_answer p (Err e) = Err (NoQuote p e)
 -- the quarter is priced by the quote of the source under the rulebook, or refused by its fault, beside the period
 pub record QuotedAt (p : ℕ) (m : Meaning) (r : Rules) (a : Result Quarter BookFault) : Type 0 where
   pub quote : Answer
-  pub quoted : Quoted m r.code r.ruling quote
+  pub quoted : IsQuoteOfSource m r.code r.ruling quote
   pub answer : a ≡ pricing_answer p quote
 
 -- a pricing is refused by a check that is not passed, and else answered by its quote

@@ -4,15 +4,15 @@ use Rattle.std.specs.Prelude.{◌≡◌, ℕ, ◌*◌, ◌≤◌, List, [], ◌�
 use Rattle.figures.specs.Gathering.{Gives}
 use Rattle.figures.specs.Sides.{side_of}
 use Rattle.figures.specs.declared.quarter_figures.Figures.{Figures}
-use Rattle.pricing.specs.Bounds.{Bounded}
-use Rattle.pricing.specs.Outcomes.{Outcome, avoided, priced as ruled}
-use Rattle.pricing.specs.Quotes.{standing}
+use Rattle.pricing.specs.Bounds.{IsBounded}
+use Rattle.pricing.specs.Outcomes.{Outcome, avoided, directed}
+use Rattle.pricing.specs.Quotes.{quoted_direction}
 use Rattle.pricing.specs.declared.quote.Quote.{Quote}
 use Rattle.pricing.specs.declared.quote.QuoteDirection.{QuoteDirection}
 use Rattle.pricing.specs.declared.quote.QuoteDirection.TheVariants.{Up, Down, Avoided}
 use Rattle.source.specs.Meanings.{Meaning}
 use Rattle.source.specs.declared.direction.Direction.TheVariants as dir
-use Rattle.units.specs.Exact.{Exact, whole}
+use Rattle.units.specs.Exact.{Exact, exact_of_price}
 use Rattle.units.specs.declared.price.Price.{Price}
 use Rattle.settlement.specs.Books.{imbalance_at, in_book, paid_to, quarter_at}
 use Rattle.settlement.specs.Events.{Answered, Did, Event, OnlyAnswer, pricing, metering, closing, settling}
@@ -29,8 +29,8 @@ pub record HalfCent (p : ℤ) (x : Exact) : Type 0 where
 
 -- the direction and the exact price that an outcome gives; where it is avoided, the avoided value is the exact price
 abbrev pub StandsFor : Outcome → Option Price → Quote → Type 0
-StandsFor (ruled d x) v q = (q.direction ≡ standing d) × HalfCent q.price.cents x
-StandsFor avoided (Some v) q = (q.direction ≡ Avoided) × HalfCent q.price.cents (whole v)
+StandsFor (directed d x) v q = (q.direction ≡ quoted_direction d) × HalfCent q.price.cents x
+StandsFor avoided (Some v) q = (q.direction ≡ Avoided) × HalfCent q.price.cents (exact_of_price v)
 StandsFor avoided None q = ⊥
 
 -- the quarter x stands at a quote with the rulebook's code, by what the rulebook gave for what the source told at the
@@ -46,8 +46,8 @@ pub record RightPrice (f : Filing) (x : Quarter) : Type 0 where
 -- an up price is at most half a cent below the weighted mean of the counting demand, and not above the highest up price
 -- formed; a down price is its mirror image
 abbrev pub WithinBounds : QuoteDirection → Meaning → ℤ → Type 0
-WithinBounds Up m p = Bounded dir.Up (side_of dir.Up m.slots) p
-WithinBounds Down m p = Bounded dir.Down (side_of dir.Down m.slots) p
+WithinBounds Up m p = IsBounded dir.Up (side_of dir.Up m.slots) p
+WithinBounds Down m p = IsBounded dir.Down (side_of dir.Down m.slots) p
 WithinBounds Avoided m p = Unit {0}
 
 -- where the last call of h is an accepted settling, its party's payments are at most half a cent from its latest imbalances

@@ -1,7 +1,7 @@
 -- The calls of a run, the latest first: what they come to, and the book that they lead to.
 use Rattle.std.specs.Prelude.{ℕ, Bool, false, ◌&&◌, ◌||◌, List, [], ◌∷◌, ℤ, pos, ◌+ℤ◌, Some, None, Ok, Err, Option, ◌==◌, if◌then◌else◌}
-use Rattle.std.specs.Option.{unwrap_or}
-use Rattle.metering.specs.Imbalances.{imbalance, or_next}
+use Rattle.std.specs.Option.{option_map_or, option_or, unwrap_or}
+use Rattle.metering.specs.Imbalances.{imbalance}
 use Rattle.source.specs.Meanings.{Meaning}
 use Rattle.settlement.specs.Answers.{Rules}
 use Rattle.settlement.specs.Books.{IsFresh}
@@ -57,7 +57,7 @@ payment_of q (settling j (Err e)) = None
 -- the latest of what the calls of a run gave
 abbrev pub latest : {X : Type 0} → (Event → Option X) → List Event → Option X
 latest f [] = None
-latest f (e ∷ h) = or_next (f e) (latest f h)
+latest f (e ∷ h) = option_or (f e) (latest f h)
 
 -- the last accepted pricing of the period
 abbrev pub last_pricing : List Event → ℕ → Option Filing
@@ -81,15 +81,10 @@ quarter_after h p = stands_as (last_pricing h p) (was_closed h p)
 abbrev pub imbalance_after : List Event → ℕ → ℕ → ℤ
 imbalance_after h p q = unwrap_or (latest (metering_of p q) h) (pos 0)
 
--- a sum with a payment, if there is one, before it
-abbrev pub added : Option ℤ → ℤ → ℤ
-added (Some x) y = x +ℤ y
-added None y = y
-
 -- the party's payments since the start: the sum of what its accepted settlings answered
 abbrev pub payments_since : List Event → ℕ → ℤ
 payments_since [] q = pos 0
-payments_since (e ∷ h) q = added (payment_of q e) (payments_since h q)
+payments_since (e ∷ h) q = option_map_or (λ x. x +ℤ payments_since h q) (payment_of q e) (payments_since h q)
 
 -- what a run says of a book that was started with these counts
 abbrev pub after_run : ℕ → ℕ → List Event → Known

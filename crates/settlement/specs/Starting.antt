@@ -1,6 +1,6 @@
 -- A book as it is started, from which every run begins, and the counts that no book can have.
-use Rattle.std.specs.Prelude.{◌≡◌, ℕ, ◌&&◌, [], None, Some, Ok, Err, Option, Result, nat_le}
-use Rattle.metering.specs.Imbalances.{or_next, unless}
+use Rattle.std.specs.Prelude.{◌≡◌, ℕ, ◌&&◌, [], None, Some, Ok, Err, Option, Result, nat_le, if◌then◌else◌}
+use Rattle.std.specs.Option.{option_or}
 use Rattle.settlement.specs.Books.{IsFresh}
 use Rattle.settlement.specs.Promises.{Sound}
 use Rattle.settlement.specs.Runs.{Run}
@@ -16,7 +16,7 @@ pub record MostCounts : Type 0 where
 
 -- 14: a count of periods from 1 to the most, and then one of parties
 abbrev pub count_fault : ℕ → ℕ → Option CountFault
-count_fault n m = or_next (unless (nat_le 1 n && nat_le n MOST_PERIODS) Periods) (unless (nat_le 1 m && nat_le m MOST_PARTIES) Parties)
+count_fault n m = option_or (if nat_le 1 n && nat_le n MOST_PERIODS then None else Some Periods) (if nat_le 1 m && nat_le m MOST_PARTIES then None else Some Parties)
 
 -- a book with these counts, from which every run begins
 pub record Begins (n m : ℕ) (b : Book) : Type 0 where

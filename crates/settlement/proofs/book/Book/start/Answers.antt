@@ -1,6 +1,7 @@
-use Rattle.std.proofs.Common.{◌≡◌, ℕ, ◌≤◌, ◌&&◌, leb, replicate, None, Ok, refl, ap, ◌∙◌, rules}
+use Rattle.std.proofs.Common.{◌≡◌, ℕ, ◌≤◌, ◌&&◌, leb, replicate, Some, None, Ok, refl, ap, ◌∙◌, rules}
 use Rattle.std.proofs.lemmas.Bool.{and_from, le-leb}
-use Rattle.metering.specs.Imbalances.{or_next, unless}
+use Rattle.std.specs.Prelude.{if◌then◌else◌}
+use Rattle.std.specs.Option.{option_or}
 use Rattle.settlement.specs.Books.{IsFresh}
 use Rattle.settlement.specs.Runs.{begun}
 use Rattle.settlement.specs.Starting.{Begins, Started, count_fault}
@@ -12,8 +13,8 @@ use Rattle.settlement.proofs.book.Book.start.Goals as goal
 
 counts : (n m : ℕ) → 1 ≤ n → n ≤ 100 → 1 ≤ m → m ≤ 32 → count_fault n m ≡ None
 counts n m a b d e =
-    ap (λ t. or_next (unless t Periods) (unless (leb 1 m && leb m 32) Parties)) (and_from _ _ (le-leb 1 n a) (le-leb n 100 b))
-    ∙ ap (λ t. unless t Parties) (and_from _ _ (le-leb 1 m d) (le-leb m 32 e))
+    ap (λ t. option_or (if t then None else Some Periods) (if leb 1 m && leb m 32 then None else Some Parties)) (and_from _ _ (le-leb 1 n a) (le-leb n 100 b))
+    ∙ ap (λ t. if t then None else Some Parties) (and_from _ _ (le-leb 1 m d) (le-leb m 32 e))
 
 begins : (n m : ℕ) (b : Book) → count_fault n m ≡ None → b.period_count ≡ n → b.party_count ≡ m → IsFresh b → Begins n m b
 begins n m b c p q f = record { counts = c; periods = p; parties = q; fresh = f; run = begun b f; sound = fresh_sound b f }
