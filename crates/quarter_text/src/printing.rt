@@ -10,6 +10,7 @@ use source::price_source::PriceSource;
 use source::product::{CYCLES, Product};
 use source::slot::{SLOTS, Slot};
 use source::table::Row;
+use source::telling::told;
 use std::alloc::{AllocError, Global};
 use std::fmt;
 use units::euros::Amount;
@@ -90,13 +91,6 @@ fn same_slot(a: Slot, b: Slot) -> bool
         (None, None) => true,
         _ => false,
     }
-}
-
-// What the source tells of a slot; no slot number here is refused.
-fn told<S: PriceSource>(source: &S, slot: usize) -> Slot
-    ensures { slot < SLOTS → result ≡ (S.PriceSource.means source.now).slots slot }
-{
-    source.slot(slot).ok().flatten()
 }
 
 // Whether the next slot has a line of its own.

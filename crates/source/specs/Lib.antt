@@ -5,3 +5,4 @@ pub mod Products
 pub mod Refusals
 pub mod Slots
 pub mod Tables
+pub mod Telling

@@ -7,3 +7,4 @@ pub mod price_source;
 pub mod product;
 pub mod slot;
 pub mod table;
+pub mod telling;

@@ -1,5 +1,5 @@
 // A whole sheet, written from any source.
-ghost use Rattle.std.specs.Prelude.{◌≡◌, ◌<◌, length, IfOk, IsOkUnless, alloc_error};
+ghost use Rattle.std.specs.Prelude.{◌≡◌, length, IfOk, IsOkUnless, alloc_error};
 ghost use Rattle.writing.specs.Bytes.{sheet_bytes};
 ghost use Rattle.writing.specs.Trips.{SameBytes, TellsBack};
 ghost use Rattle.writing.specs.Writes.{left, written};
@@ -9,15 +9,9 @@ use crate::short_buffer::ShortBuffer;
 use crate::slot_writer::{put_avoided, put_slot};
 use sheet::head::OPENING;
 use source::price_source::PriceSource;
-use source::slot::{SLOTS, Slot};
+use source::slot::SLOTS;
+use source::telling::told;
 use std::alloc::{AllocError, Global};
-
-// What the source tells of a slot; no slot number here is refused.
-fn told<S: PriceSource>(source: &S, slot: usize) -> Slot
-    ensures { slot < SLOTS → result ≡ (S.PriceSource.means source.now).slots slot }
-{
-    source.slot(slot).ok().flatten()
-}
 
 fn sheet_of<S: PriceSource>(source: &S) -> SheetBytes
     ensures { result.items ≡ sheet_bytes (S.PriceSource.means source.now) }

@@ -15,7 +15,7 @@ loop-last-preserved g c =
     let k = c.loop-last.last in
     let i = c.loop-last.invariant in
     elim c.if-ends_run.branch [
-      | then-ends_run+in_ok-put_run w ↦ let r = run_put m.slots k c.loop-last.first w.told.result (head_text m.zone.kw m.avoided) _ _ (sym c.ends_run.ensures ∙ w.if-ends_run.true) (w.told.ensures (omega (arith, c.loop-last-test.true))) i.0 i.1 w.in_ok-put_run.ensures in (ap string_bytes w.text-is ∙ r.0, w.first-is ∙ r.1)
+      | then-ends_run+in_ok-put_run w ↦ let r = run_put m.slots k c.loop-last.first w.told.result (head_text m.zone.kw m.avoided) _ _ (sym c.ends_run.ensures ∙ w.if-ends_run.true) (w.told.ensures.as_meant (omega (arith, c.loop-last-test.true))) i.0 i.1 w.in_ok-put_run.ensures in (ap string_bytes w.text-is ∙ r.0, w.first-is ∙ r.1)
       | else-ends_run w ↦ let r = run_goes_on m.slots k c.loop-last.first (head_text m.zone.kw m.avoided) _ (sym c.ends_run.ensures ∙ w.if-ends_run.false) i.0 i.1 in (ap string_bytes w.text-is ∙ r.0, w.first-is ∙ r.1)
     ]
 
