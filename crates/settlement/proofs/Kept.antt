@@ -20,6 +20,7 @@ use Rattle.settlement.specs.Promises.{AllAnswered, AllFairlyPaid, FairlyPaid, Is
 use Rattle.settlement.specs.Runs.{Filing, Run, after, after_run, begun, imbalance_after, last_pricing, payments_since, quarter_after, stands_as, was_closed}
 use Rattle.settlement.specs.Standings.{closed_as, is_closed, quote_in}
 use Rattle.settlement.specs.declared.book.Book.{Book}
+use Rattle.settlement.specs.declared.book.TheConstants.{MOST_PERIODS, MOST_PARTIES}
 use Rattle.settlement.specs.declared.fault.BookFault.TheVariants.{QuarterClosed, Metering}
 use Rattle.settlement.specs.declared.party.Party.{Party}
 use Rattle.settlement.specs.declared.quarter.Quarter.{Quarter}
@@ -174,14 +175,14 @@ none_metered (suc m) n p (suc q) = none_metered m n p q
 
 pub fresh_run : (b : Book) → IsFresh b → Reached [] b
 fresh_run b f =
-    let blank : (p : ℕ) → quarter_at b p ≡ Blank = λ p. rw f.blank (all_same 100 p Blank) in
+    let blank : (p : ℕ) → quarter_at b p ≡ Blank = λ p. rw f.blank (all_same MOST_PERIODS p Blank) in
     record {
       standings = blank;
       closings = λ p. rw (blank p) refl;
       prices = λ p g e. let z : ◌≡◌ {A = ℕ} 0 1 = cc in absurd (omega arith);
       bounds = λ p g e. let z : ◌≡◌ {A = ℕ} 0 1 = cc in absurd (omega arith);
-      imbalances = λ p q. rw f.unmetered (ap (λ (i : Imbalance). i.kwh) (none_metered 32 100 p q));
-      payments = λ q. rw f.unpaid (ap (λ (x : Amount). x.cents) (all_same 32 q nothing));
+      imbalances = λ p q. rw f.unmetered (ap (λ (i : Imbalance). i.kwh) (none_metered MOST_PARTIES MOST_PERIODS p q));
+      payments = λ q. rw f.unpaid (ap (λ (x : Amount). x.cents) (all_same MOST_PARTIES q nothing));
     }
 
 -- EVERY CALL

@@ -6,6 +6,7 @@ use Rattle.metering.specs.declared.imbalance.Imbalance.{Imbalance}
 use Rattle.settlement.specs.Books.{imbalance_at, imbalances_in, imbalances_of, paid_to, payments_in, quarter_at}
 use Rattle.settlement.specs.Known.{nothing}
 use Rattle.settlement.specs.declared.book.Book.{Book}
+use Rattle.settlement.specs.declared.book.TheConstants.{MOST_PERIODS}
 use Rattle.settlement.specs.declared.party.Party.{Party}
 use Rattle.settlement.specs.declared.quarter.Quarter.{Quarter}
 use Rattle.settlement.specs.declared.quarter.Quarter.TheVariants.{Blank}
@@ -25,10 +26,10 @@ pub amount_placed : (b : Book) (q : ℕ) → q < b.party_count → q < length (p
 amount_placed b q l = omega (arith, party_placed b q l, length-map b.parties (λ (party : Party). party.paid))
 
 -- each party has a place for each period
-rows_long : (ps : List Party) (q : ℕ) → q < length ps → 100 ≤ length (get_or (map (λ (party : Party). party.imbalances) ps) q [])
+rows_long : (ps : List Party) (q : ℕ) → q < length ps → MOST_PERIODS ≤ length (get_or (map (λ (party : Party). party.imbalances) ps) q [])
 rows_long [] q l = absurd (omega (arith, l))
 rows_long (p ∷ ps) q l =
-    subst (λ (row : List Imbalance). 100 ≤ length row) (sym (get_or-map (λ (party : Party). party.imbalances) (p ∷ ps) q p [] l)) (get_or (p ∷ ps) q p).places
+    subst (λ (row : List Imbalance). MOST_PERIODS ≤ length row) (sym (get_or-map (λ (party : Party). party.imbalances) (p ∷ ps) q p [] l)) (get_or (p ∷ ps) q p).places
 
 pub imbalance_placed : (b : Book) (p q : ℕ) → p < b.period_count → q < b.party_count → p < length (imbalances_of b q)
 imbalance_placed b p q l m = omega (arith, l, b.counts.1, rows_long b.parties q (party_placed b q m))

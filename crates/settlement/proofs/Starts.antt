@@ -4,6 +4,7 @@ use mathlib.Core.HLevel.{is_prop→PathP}
 use native.Mathlib.Bridge.{le_prop}
 use Rattle.settlement.specs.Starting.{Started, count_fault}
 use Rattle.settlement.specs.declared.book.Book.{Book}
+use Rattle.settlement.specs.declared.book.TheConstants.{MOST_PERIODS, MOST_PARTIES}
 use Rattle.settlement.specs.declared.fault.CountFault.{CountFault}
 use Rattle.settlement.specs.declared.party.Party.{Party}
 
@@ -11,7 +12,7 @@ party_same : (p q : Party) → p.imbalances ≡ q.imbalances → p.paid ≡ q.pa
 party_same p q e f = λ i. record {
   imbalances = e i;
   paid = f i;
-  places = is_prop→PathP (λ j. 100 ≤ length (e j)) (λ j. le_prop) p.places q.places i;
+  places = is_prop→PathP (λ j. MOST_PERIODS ≤ length (e j)) (λ j. le_prop) p.places q.places i;
   payments = is_prop→PathP (λ j. nat_abs (f j).cents ≤ 15_000_000_000_000) (λ j. le_prop) p.payments q.payments i;
 }
 
@@ -35,14 +36,14 @@ book_same b d e f n m = λ i. record {
   period_count = n i;
   party_count = m i;
   places = (
-    is_prop→PathP (λ j. 100 ≤ length (e j)) (λ j. le_prop) b.places.0 d.places.0 i,
-    is_prop→PathP (λ j. 32 ≤ length (f j)) (λ j. le_prop) b.places.1 d.places.1 i,
+    is_prop→PathP (λ j. MOST_PERIODS ≤ length (e j)) (λ j. le_prop) b.places.0 d.places.0 i,
+    is_prop→PathP (λ j. MOST_PARTIES ≤ length (f j)) (λ j. le_prop) b.places.1 d.places.1 i,
   );
   counts = (
     is_prop→PathP (λ j. 1 ≤ n j) (λ j. le_prop) b.counts.0 d.counts.0 i,
-    is_prop→PathP (λ j. n j ≤ 100) (λ j. le_prop) b.counts.1 d.counts.1 i,
+    is_prop→PathP (λ j. n j ≤ MOST_PERIODS) (λ j. le_prop) b.counts.1 d.counts.1 i,
     is_prop→PathP (λ j. 1 ≤ m j) (λ j. le_prop) b.counts.2 d.counts.2 i,
-    is_prop→PathP (λ j. m j ≤ 32) (λ j. le_prop) b.counts.3 d.counts.3 i,
+    is_prop→PathP (λ j. m j ≤ MOST_PARTIES) (λ j. le_prop) b.counts.3 d.counts.3 i,
   );
 }
 
