@@ -3,7 +3,7 @@ use Rattle.std.specs.Prelude.{◌≡◌, ℕ, List, pos, Ok, Err, Result}
 use Rattle.pricing.specs.FiveQuotes.{AreQuotesUnlessFault}
 use Rattle.pricing.specs.Refusals.{quote_number, quote_place}
 use Rattle.pricing.specs.declared.fault.QuoteFault.{QuoteFault}
-use Rattle.pricing.specs.declared.five_quotes.FiveQuotes.{FiveQuotes}
+use Rattle.pricing.specs.declared.codes.FiveQuotes.{FiveQuotes}
 use Rattle.pricing.specs.declared.quote.Quote.{Quote}
 use Rattle.pricing.specs.declared.quote.QuoteDirection.{QuoteDirection}
 use Rattle.pricing.specs.declared.quote.QuoteDirection.TheVariants.{Up, Down, Avoided}

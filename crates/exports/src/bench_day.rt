@@ -11,14 +11,11 @@ ghost use Rattle.settlement.specs.Standings.{is_closed};
 ghost use Rattle.settlement.specs.Starting.{count_fault};
 
 use crate::plain::PlainDay;
-use metering::imbalance::Imbalance;
-use metering::meter_values::MeterValues;
-use pricing::rulebook::Rulebook;
-use pricing::rulebooks::Finnish;
-use settlement::book::Book;
-use settlement::fault::{BookFault, CountFault};
-use sheet::sheet::Sheet;
-use units::refusal::Refusal;
+use metering::{Imbalance, MeterValues};
+use pricing::{Finnish, Rulebook};
+use settlement::{Book, BookFault, CountFault};
+use sheet::Sheet;
+use units::Refusal;
 
 // Prices each quarter from its own sheet, from no bytes where its places are none of the sheets', and answers how many
 // have a price.

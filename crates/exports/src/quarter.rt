@@ -4,11 +4,9 @@ ghost use Rattle.exports.specs.Quarters.{IsPlainQuarter, direction_number, every
 ghost use Rattle.exports.specs.declared.plain.PlainQuarter.{PlainQuarter};
 
 use crate::plain::{PlainQuarter, PlainQuote};
-use pricing::fault::QuoteFault;
-use pricing::five_quotes::{FiveQuotes, five_quotes};
-use pricing::quote::{Quote, QuoteDirection};
-use sheet::sheet::Sheet;
-use units::refusal::Refusal;
+use pricing::{FiveQuotes, Quote, QuoteDirection, QuoteFault, five_quotes};
+use sheet::Sheet;
+use units::Refusal;
 
 fn number_of(direction: QuoteDirection) -> u16
     ensures { result ≡ direction_number direction }

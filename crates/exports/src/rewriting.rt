@@ -4,8 +4,8 @@ ghost use Rattle.sheet.specs.Sheets.{sheet_meaning};
 ghost use Rattle.writing.specs.Bytes.{sheet_bytes};
 ghost use Rattle.writing.specs.Writes.{left};
 
-use sheet::sheet::Sheet;
-use writing::sheet_writer::write_sheet;
+use sheet::Sheet;
+use writing::write_sheet;
 
 /// Writes what a sheet of any bytes tells, and answers how many bytes that takes. A buffer that is shorter is left
 /// as it was.

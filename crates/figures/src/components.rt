@@ -8,8 +8,8 @@ ghost use Rattle.units.specs.declared.ratio.Ratio.{Ratio};
 use crate::quarter_figures::Figures;
 use crate::side::{Manual, Side};
 use crate::span::Span;
-use source::direction::Direction;
-use units::ratio::Ratio;
+use source::Direction;
+use units::Ratio;
 
 fn is_reached(direction: Direction, a: Ratio, b: Ratio) -> bool
     ensures { result ≡ reaches direction (exact_of a) (exact_of b) }

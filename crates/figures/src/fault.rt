@@ -1,7 +1,7 @@
 // Why a source gives no figures.
 ghost use Rattle.figures.specs.Refusals.{unreported_number, unreported_place};
 
-use units::refusal::Refusal;
+use units::Refusal;
 
 /// The first slot that is not reported.
 #[derive(Clone, Copy, PartialEq, Eq, Debug)]

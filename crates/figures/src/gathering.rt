@@ -10,9 +10,7 @@ use crate::side::Side;
 use crate::span::span_between;
 use crate::tally::{DirectionTally, Tally};
 use crate::weighed::Weighed;
-use source::direction::Direction;
-use source::price_source::PriceSource;
-use source::product::{CYCLES, ManualProduct, weight_of};
+use source::{CYCLES, Direction, ManualProduct, PriceSource, weight_of};
 
 fn weighed<S: PriceSource>(source: &S, slot: usize) -> Result<Weighed, UnreportedSlot>
     requires { slot < SLOTS }

@@ -3,8 +3,7 @@ ghost use Rattle.source.specs.Meanings.{Meaning};
 ghost use Rattle.figures.specs.Sides.{Given};
 
 use crate::side::Side;
-use units::price::Price;
-use units::zone_net::ZoneNet;
+use units::{Price, ZoneNet};
 
 /// Both nets, the avoided value and each direction's figures. Some 228 reported slots, a zone net and an
 /// avoided value give them, so that a rulebook answers for no others.

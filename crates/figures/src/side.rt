@@ -1,6 +1,6 @@
 // The figures of one direction.
 use crate::span::Span;
-use units::price::Price;
+use units::Price;
 
 /// The demand of a slot that counts: its volume in kW times weight, and the price formed for it.
 #[derive(Clone, Copy)]

@@ -2,7 +2,7 @@
 ghost use Rattle.std.specs.Prelude.{◌≡◌};
 ghost use Rattle.figures.specs.Spans.{greater, lesser, span_between};
 
-use units::price::Price;
+use units::Price;
 
 #[derive(Clone, Copy)]
 pub struct Span {

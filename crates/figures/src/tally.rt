@@ -7,8 +7,8 @@ ghost use Rattle.figures.specs.Tallies.{Room, blank, counting, counting_in, cycl
 use crate::side::{Activation, Manual, Totals};
 use crate::span::{greater, lesser, span_between};
 use crate::weighed::Weighed;
-use source::direction::Direction;
-use units::price::Price;
+use source::Direction;
+use units::Price;
 
 // Of one direction V, S and the prices of the cycles counted, and the formed prices of the slots noted. Each price is
 // a field: two in a struct of their own are copied packed in one word, which takes longer.

@@ -1,7 +1,7 @@
 // A slot's reading, with the weight of its number.
 ghost use Rattle.std.specs.Prelude.{◌≤◌};
 
-use source::slot::Reading;
+use source::Reading;
 
 #[derive(Clone, Copy)]
 pub(crate) struct Weighed {

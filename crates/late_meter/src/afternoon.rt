@@ -2,12 +2,11 @@
 use crate::halt::Halt;
 use crate::step::{Metered, Step};
 use crate::tables::Told;
-use metering::meter_values::MeterValues;
-use pricing::rulebooks::Finnish;
-use settlement::book::Book;
-use source::table::Table;
-use units::quantity::Quantity;
-use units::zone_net::ZoneNet;
+use metering::MeterValues;
+use pricing::Finnish;
+use settlement::Book;
+use source::Table;
+use units::{Quantity, ZoneNet};
 
 #[derive(Drop)]
 pub(crate) struct Afternoon<'a> {

@@ -1,5 +1,5 @@
 // Why the program stops before its end.
-use settlement::fault::{BookFault, CountFault};
+use settlement::{BookFault, CountFault};
 use std::io;
 use thiserror::Error;
 

@@ -9,7 +9,7 @@ mod tables;
 
 use afternoon::Afternoon;
 use halt::Halt;
-use metering::meter_values::MeterValues;
+use metering::MeterValues;
 use tables::QUARTERS;
 
 const RINK: usize = 0;

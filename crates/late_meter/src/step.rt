@@ -1,11 +1,9 @@
 // One call of the book as one printed line.
-use metering::imbalance::Imbalance;
-use pricing::quote::Quote;
-use settlement::fault::BookFault;
-use settlement::quarter::Quarter;
+use metering::Imbalance;
+use pricing::Quote;
+use settlement::{BookFault, Quarter};
 use std::fmt;
-use units::euros::Amount;
-use units::refusal::Refusal;
+use units::{Amount, Refusal};
 
 #[derive(Clone, Copy)]
 pub(crate) enum Step {

@@ -1,5 +1,5 @@
 // The four quarters of the Finnish note, as rows of a table.
-use source::table::Row;
+use source::Row;
 
 /// What is told of a quarter: each automatic cycle, the scheduled manual slot and the zone net in kW.
 #[derive(Clone, Copy)]

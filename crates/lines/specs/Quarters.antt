@@ -1,6 +1,6 @@
 -- The text of what is answered of a sheet.
 use Rattle.std.specs.Prelude.{ℕ, List, [], ◌∷◌, ◌++◌, Ok, Err, Result}
-use Rattle.pricing.specs.declared.five_quotes.FiveQuotes.{FiveQuotes}
+use Rattle.pricing.specs.declared.codes.FiveQuotes.{FiveQuotes}
 use Rattle.sheet.specs.Faults.{fault_text}
 use Rattle.sheet.specs.declared.fault.SheetFault.{SheetFault}
 use Rattle.lines.specs.Texts.{answer_text}

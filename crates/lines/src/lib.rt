@@ -1,6 +1,10 @@
 // The printed lines of one quarter.
 #![tactic(auto)]
 
-pub mod line;
-pub mod quarter_lines;
-pub mod record_lines;
+mod line;
+mod quarter_lines;
+mod record_lines;
+
+pub use line::Line;
+pub use quarter_lines::{FiveLines, QuarterLines, lines_of};
+pub use record_lines::{RecordLine, RecordLines};

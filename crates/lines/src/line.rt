@@ -2,11 +2,9 @@
 ghost use Rattle.std.specs.Prelude.{Some};
 ghost use Rattle.lines.specs.Texts.{line_text};
 
-use pricing::fault::QuoteFault;
-use pricing::quote::Quote;
+use pricing::{Quote, QuoteFault};
 use std::fmt;
-use units::euros::Amount;
-use units::refusal::Refusal;
+use units::{Amount, Refusal};
 
 #[derive(Clone, Copy)]
 pub struct Line {

@@ -5,11 +5,8 @@ ghost use Rattle.lines.specs.Quarters.{five_text, lines_text};
 ghost use Rattle.lines.specs.declared.quarter_lines.QuarterLines.{QuarterLines};
 
 use crate::line::Line;
-use pricing::five_quotes::{FiveQuotes, five_quotes};
-use pricing::rulebook::Rulebook;
-use pricing::rulebooks::{CombinedAll, CombinedAutomatic, Finnish, MaxMin, WeightedAverage};
-use sheet::fault::SheetFault;
-use sheet::sheet::Sheet;
+use pricing::{CombinedAll, CombinedAutomatic, Finnish, FiveQuotes, MaxMin, Rulebook, WeightedAverage, five_quotes};
+use sheet::{Sheet, SheetFault};
 use std::fmt;
 
 /// The lines of codes 1 to 5.

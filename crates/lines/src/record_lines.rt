@@ -3,9 +3,7 @@ ghost use Rattle.std.specs.Prelude.{Some};
 ghost use Rattle.lines.specs.Records.{body_text, handed_text, hex_text, records_text};
 ghost use Rattle.sheet.specs.Readers.{shown};
 
-use sheet::fault::SheetFault;
-use sheet::reader::Reader;
-use sheet::slot_record::Record;
+use sheet::{Reader, Record, SheetFault};
 use std::fmt;
 
 /// A byte as two hexadecimal digits.

@@ -1,7 +1,7 @@
 // Why meter values give no imbalance.
 ghost use Rattle.metering.specs.Refusals.{metering_number, metering_place};
 
-use units::refusal::Refusal;
+use units::Refusal;
 
 #[derive(Clone, Copy, PartialEq, Eq, Debug)]
 pub enum MeteringFault {

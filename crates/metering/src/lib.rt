@@ -1,6 +1,10 @@
 // What is metered of a balance party in a quarter, and the imbalance that follows from it.
 #![tactic(auto)]
 
-pub mod fault;
-pub mod imbalance;
-pub mod meter_values;
+mod fault;
+mod imbalance;
+mod meter_values;
+
+pub use fault::MeteringFault;
+pub use imbalance::Imbalance;
+pub use meter_values::MeterValues;

@@ -1,12 +1,12 @@
 // Lays the netting fill over a sheet from standard input, and writes the filled sheet to standard output.
 #![tactic(auto)]
 
-use sheet::sheet::Sheet;
-use source::netting_fill::NettingFill;
+use sheet::Sheet;
+use source::NettingFill;
 use std::io;
 use std::io::Read;
 use std::process::ExitCode;
-use writing::sheet_writer::sheet_vec;
+use writing::sheet_vec;
 
 fn main(rt: HostRuntime) -> io::Result<ExitCode> {
     let mut bytes = Vec::new(rt.alloc());

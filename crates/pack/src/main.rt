@@ -1,13 +1,11 @@
 // Reads a quarter as plain text from standard input, and writes its packed sheet to standard output.
 #![tactic(auto)]
 
-use quarter_text::fault::ReadFault;
-use quarter_text::message::{Message, word_of};
-use quarter_text::reading::read_quarter;
+use quarter_text::{Message, ReadFault, read_quarter, word_of};
 use std::io;
 use std::io::Read;
 use std::process::ExitCode;
-use writing::sheet_writer::sheet_vec;
+use writing::sheet_vec;
 
 fn main(rt: HostRuntime) -> io::Result<ExitCode> {
     let heap = rt.alloc();

@@ -11,7 +11,7 @@ use Rattle.units.specs.declared.price.Price.{Price}
 use Rattle.pricing.specs.FiveQuotes.{AreQuotesOfSource, AreQuotesUnlessFault}
 use Rattle.pricing.specs.Outcomes.{Outcome, avoided, directed}
 use Rattle.pricing.specs.Quotes.{Answer, IsQuote, IsQuoteOfFigures, IsQuoteOfSource}
-use Rattle.pricing.specs.declared.five_quotes.FiveQuotes.{FiveQuotes}
+use Rattle.pricing.specs.declared.codes.FiveQuotes.{FiveQuotes}
 
 -- the evidence that figures carry is a proposition
 figures_same : (f g : Figures) → f.local_net ≡ g.local_net → f.zone_net ≡ g.zone_net → f.avoided ≡ g.avoided → f.up ≡ g.up → f.down ≡ g.down → f ≡ g

@@ -9,7 +9,7 @@ use Rattle.pricing.specs.Bounds.{IsBoundedQuote, IsBoundedQuoteOfSource}
 use Rattle.pricing.specs.FiveQuotes.{AreQuotesOfFigures, AreQuotesOfSource}
 use Rattle.pricing.specs.Outcomes.{Outcome}
 use Rattle.pricing.specs.Quotes.{Answer, IsQuote, IsQuoteOfFigures, IsQuoteOfSource}
-use Rattle.pricing.specs.declared.five_quotes.FiveQuotes.{FiveQuotes}
+use Rattle.pricing.specs.declared.codes.FiveQuotes.{FiveQuotes}
 use Rattle.pricing.specs.declared.fault.QuoteFault.TheVariants.{NoAvoidedValue, Unreported}
 
 never : (code : ℕ) (o : Outcome) (a : Option Price) (e : UnreportedSlot) → IsQuote code o a (Err (Unreported e)) → ⊥

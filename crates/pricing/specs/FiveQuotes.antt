@@ -7,7 +7,7 @@ use Rattle.pricing.specs.Outcomes.{Outcome}
 use Rattle.pricing.specs.Quotes.{Answer, IsQuote, IsQuoteOfSource}
 use Rattle.pricing.specs.Rulings as rulings
 use Rattle.pricing.specs.declared.fault.QuoteFault.TheVariants.{Unreported}
-use Rattle.pricing.specs.declared.five_quotes.FiveQuotes.{FiveQuotes}
+use Rattle.pricing.specs.declared.codes.FiveQuotes.{FiveQuotes}
 
 -- each answer is, for the code and the ruling of its rulebook, as `answers` has it
 pub record AreByCode (answers : ℕ → (Figures → Outcome) → Answer → Type 0) (q : FiveQuotes) : Type 0 where

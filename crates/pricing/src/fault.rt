@@ -3,8 +3,8 @@ ghost use Rattle.std.specs.Prelude.{◌≡◌};
 ghost use Rattle.pricing.specs.Refusals.{quote_number, quote_place};
 ghost use Rattle.pricing.specs.declared.fault.QuoteFault.TheVariants.{Unreported};
 
-use figures::fault::UnreportedSlot;
-use units::refusal::Refusal;
+use figures::UnreportedSlot;
+use units::Refusal;
 
 #[derive(Clone, Copy, Debug)]
 pub enum QuoteFault {

@@ -1,9 +1,16 @@
 // From the figures of a quarter to its imbalance price: rulebooks and quotes.
 #![tactic(auto)]
 
-pub mod fault;
-pub mod five_quotes;
-pub mod quote;
-pub mod rulebook;
-pub mod rulebooks;
-pub mod ruling;
+mod codes;
+mod fault;
+mod quote;
+mod rulebook;
+mod rulebooks;
+mod ruling;
+
+pub use codes::{FiveQuotes, five_quotes};
+pub use fault::QuoteFault;
+pub use quote::{Quote, QuoteDirection, quote_figures, quote_source};
+pub use rulebook::Rulebook;
+pub use rulebooks::{CombinedAll, CombinedAutomatic, Finnish, MaxMin, WeightedAverage};
+pub use ruling::{DirectedPrice, Net, Ruling};

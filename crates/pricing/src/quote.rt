@@ -8,12 +8,10 @@ ghost use Rattle.pricing.specs.Quotes.{Answer, IsQuote, IsQuoteOfSource, letter,
 
 use crate::fault::QuoteFault;
 use crate::rulebook::Rulebook;
-use figures::gathering::figures_of;
-use figures::quarter_figures::Figures;
-use source::direction::Direction;
-use source::price_source::PriceSource;
+use figures::{Figures, figures_of};
+use source::{Direction, PriceSource};
 use std::fmt;
-use units::price::Price;
+use units::Price;
 
 /// The direction that a quote names: up, down, or the avoided activation.
 #[derive(Clone, Copy, PartialEq, Eq)]

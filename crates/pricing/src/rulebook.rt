@@ -6,7 +6,7 @@ ghost use Rattle.pricing.specs.FourLaws.{KeepsLaws};
 ghost use Rattle.pricing.specs.Outcomes.{Outcome, outcome_of};
 
 use crate::ruling::{Net, Ruling};
-use figures::quarter_figures::Figures;
+use figures::Figures;
 
 /// Whatever means one result for each set of figures and keeps the four laws, under a fixed code and by a fixed net.
 /// What it means belongs to the value, so that a rulebook may hold a price or another rulebook.

@@ -5,9 +5,8 @@ ghost use Rattle.pricing.specs.laws.Lawful.{rulebook_keeps, mean_lawful, automat
 
 use crate::rulebook::Rulebook;
 use crate::ruling::{DirectedPrice, Net, Ruling};
-use figures::components::extreme_of;
-use figures::quarter_figures::Figures;
-use source::direction::Direction;
+use figures::{Figures, extreme_of};
+use source::Direction;
 
 /// Code 1: the volume-weighted average.
 #[derive(Clone, Copy)]

@@ -2,9 +2,9 @@
 ghost use Rattle.std.specs.Prelude.{◌≡◌};
 ghost use Rattle.pricing.specs.Outcomes.{net_of};
 
-use figures::quarter_figures::Figures;
-use source::direction::Direction;
-use units::ratio::Ratio;
+use figures::Figures;
+use source::Direction;
+use units::Ratio;
 
 /// A direction with its exact price.
 #[derive(Clone, Copy)]

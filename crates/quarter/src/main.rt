@@ -1,7 +1,7 @@
 // Prints the price of one quarter hour under five rulebooks, from a packed sheet on standard input.
 #![tactic(auto)]
 
-use lines::quarter_lines::lines_of;
+use lines::lines_of;
 use std::io;
 use std::io::Read;
 

@@ -1,5 +1,5 @@
 // A writer of sheets for the tests, apart from the library.
-use lines::quarter_lines::lines_of;
+use lines::lines_of;
 use std::alloc::{AllocError, Global};
 
 /// The direction of a slot's one price, with the lead byte that tells it.

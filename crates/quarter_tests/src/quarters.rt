@@ -2,12 +2,11 @@
 use crate::bytes::Bytes;
 use crate::bytes::Formed::{Down, Up};
 use crate::reference_price::Referenced;
-use pricing::quote::quote_source;
-use sheet::sheet::Sheet;
+use pricing::quote_source;
+use sheet::Sheet;
 use std::alloc::{AllocError, Global};
 use std::test::Fail;
-use units::price::Price;
-use units::quantity::Quantity;
+use units::{Price, Quantity};
 
 #[test]
 fn three_price_levels(rt: HostRuntime) -> Result<(), Fail> {

@@ -1,6 +1,6 @@
 // The lines of a sheet's records.
 use crate::bytes::{Bytes, Formed};
-use lines::record_lines::RecordLines;
+use lines::RecordLines;
 use std::alloc::AllocError;
 use std::test::Fail;
 

@@ -7,14 +7,10 @@ ghost use Rattle.pricing.specs.declared.ruling.Net.TheVariants.{Zone};
 ghost use Rattle.quarter_tests.specs.laws.Keeping.{reference_lawful};
 ghost use Rattle.quarter_tests.specs.References.{reference_price, reference_within};
 
-use figures::components::extreme_of;
-use figures::quarter_figures::Figures;
-use figures::span::Span;
-use pricing::rulebook::Rulebook;
-use pricing::ruling::{DirectedPrice, Net, Ruling};
-use source::direction::Direction;
-use units::price::Price;
-use units::ratio::Ratio;
+use figures::{Figures, Span, extreme_of};
+use pricing::{DirectedPrice, Net, Rulebook, Ruling};
+use source::Direction;
+use units::{Price, Ratio};
 
 /// Code 31, by the zone's net: the extreme of the weighted mean and a reference price, which goes no further than the
 /// prices formed.

@@ -1,9 +1,9 @@
 // Numbers as they are stored, and a damaged sheet for each refusal.
 use crate::bytes::Bytes;
-use sheet::sheet::Sheet;
-use source::price_source::PriceSource;
+use sheet::Sheet;
+use source::PriceSource;
 use std::test::Fail;
-use units::refusal::Refusal;
+use units::Refusal;
 
 #[test]
 fn stored_numbers(rt: HostRuntime) -> Result<(), Fail> {

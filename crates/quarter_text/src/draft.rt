@@ -7,9 +7,8 @@ use crate::fault::{Part, Problem, TextFault, WordFault, at_word};
 use crate::line::Line;
 use crate::quarter::TextQuarter;
 use crate::range::Range;
-use source::slot::{SLOTS, Slot};
-use units::price::Price;
-use units::zone_net::ZoneNet;
+use source::{SLOTS, Slot};
+use units::{Price, ZoneNet};
 
 /// The avoided value, as far as the lines so far say it: there is one, or there is none.
 #[derive(Clone, Copy)]

@@ -5,11 +5,8 @@ ghost use Rattle.quarter_text.specs.Numerals.{number_of};
 
 use crate::fault::{Problem, WordFault, at_word, in_bounds};
 use crate::numeral::Numeral;
-use source::product::CYCLES;
-use source::slot::SLOTS;
-use units::bounds::OutOfBounds;
-use units::demand::Demand;
-use units::quantity::Quantity;
+use source::{CYCLES, SLOTS};
+use units::{Demand, OutOfBounds, Quantity};
 
 // Energy over slots of this weight in all, as the demand in each of them.
 pub(crate) fn power(word: usize, weight: u64, energy: Numeral) -> Result<Demand, WordFault>

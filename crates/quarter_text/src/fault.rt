@@ -4,7 +4,7 @@ ghost use Rattle.quarter_text.specs.Faults.{at_word, expected_at, fault_in, in_b
 ghost use Rattle.quarter_text.specs.declared.fault.ReadFault.TheVariants.{Text, Memory};
 
 use std::alloc::AllocError;
-use units::bounds::OutOfBounds;
+use units::OutOfBounds;
 
 /// What a line should have had at a word.
 #[derive(Clone, Copy, PartialEq, Eq, Debug)]

@@ -4,13 +4,19 @@
 mod decimal;
 mod draft;
 mod energy;
-pub mod fault;
+mod fault;
 mod line;
-pub mod message;
+mod message;
 mod numeral;
-pub mod printing;
+mod printing;
 mod product;
-pub mod quarter;
+mod quarter;
 mod range;
-pub mod reading;
+mod reading;
 mod words;
+
+pub use fault::{Part, Problem, ReadFault, TextFault, WordFault};
+pub use message::{Message, word_of};
+pub use printing::quarter_text;
+pub use quarter::TextQuarter;
+pub use reading::read_quarter;

@@ -12,11 +12,8 @@ use crate::fault::{Part, WordFault, expected, in_bounds};
 use crate::numeral::Numeral;
 use crate::range::Range;
 use crate::words::nth;
-use source::slot::{Reading, SLOTS, Slot};
-use units::demand::Demand;
-use units::price::Price;
-use units::quantity::Quantity;
-use units::zone_net::ZoneNet;
+use source::{Reading, SLOTS, Slot};
+use units::{Demand, Price, Quantity, ZoneNet};
 
 /// The words of a line.
 #[derive(Clone, Copy)]

@@ -7,7 +7,7 @@ use crate::fault::{Part, Problem, TextFault};
 use crate::words::{lines_of, nth, words_of};
 use std::alloc::{AllocError, Global};
 use std::fmt;
-use units::bounds::OutOfBounds;
+use units::OutOfBounds;
 
 /// The most bytes of a word that are shown.
 const SHOWN: usize = 40;

@@ -6,16 +6,10 @@ ghost use Rattle.quarter_text.specs.Trips.{ReadsBack, SameSheet};
 
 use crate::product::product_word;
 use crate::range::Range;
-use source::price_source::PriceSource;
-use source::product::{CYCLES, Product};
-use source::slot::{SLOTS, Slot};
-use source::table::Row;
-use source::telling::told;
+use source::{CYCLES, PriceSource, Product, Row, SLOTS, Slot, told};
 use std::alloc::{AllocError, Global};
 use std::fmt;
-use units::euros::Amount;
-use units::price::Price;
-use units::zone_net::ZoneNet;
+use units::{Amount, Price, ZoneNet};
 
 /// Euros, or a `-` where there is no price.
 #[derive(Clone, Copy)]

@@ -2,7 +2,7 @@
 ghost use Rattle.std.specs.Prelude.{◌≡◌};
 ghost use Rattle.quarter_text.specs.Products.{product_named, product_word};
 
-use source::product::ManualProduct;
+use source::ManualProduct;
 
 /// The word of a product, read and printed.
 pub(crate) fn product_word(product: ManualProduct) -> &'static str

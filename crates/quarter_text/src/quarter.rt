@@ -1,11 +1,8 @@
 // A quarter that a text tells, as a price source.
 ghost use Rattle.std.specs.Prelude.{◌≡◌};
 
-use source::price_source::PriceSource;
-use source::slot::{NoSuchSlot, SLOTS, Slot};
-use source::table::Row;
-use units::price::Price;
-use units::zone_net::ZoneNet;
+use source::{NoSuchSlot, PriceSource, Row, SLOTS, Slot};
+use units::{Price, ZoneNet};
 
 /// The zone net, the avoided value, and each slot that the text names.
 #[derive(Clone, Copy)]

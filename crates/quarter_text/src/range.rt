@@ -6,8 +6,7 @@ ghost use Rattle.quarter_text.specs.Ranges.{numbered, range_of, slot_of, slots_f
 use crate::decimal::{digits, first_at};
 use crate::fault::{Part, Problem, WordFault, at_word, expected};
 use crate::product::product_named;
-use source::product::{CYCLES, weight_of};
-use source::slot::SLOTS;
+use source::{CYCLES, SLOTS, weight_of};
 
 /// The slots from the first to the last.
 #[derive(Clone, Copy)]

@@ -1,10 +1,6 @@
 // Quarters from a fixed sequence of numbers.
-use source::slot::SLOTS;
-use source::table::Row;
-use units::bounds::OutOfBounds;
-use units::price::Price;
-use units::quantity::Quantity;
-use units::zone_net::ZoneNet;
+use source::{Row, SLOTS};
+use units::{OutOfBounds, Price, Quantity, ZoneNet};
 
 /// A linear congruential sequence modulo 2^64.
 #[derive(Drop)]

@@ -1,12 +1,12 @@
 // Texts as they are printed, and quarters there and back.
 use crate::generator::Generator;
 use crate::texts::{printed, sheet_of, with_head};
-use quarter_text::printing::quarter_text;
-use sheet::sheet::Sheet;
-use source::table::Table;
+use quarter_text::quarter_text;
+use sheet::Sheet;
+use source::Table;
 use std::test::Fail;
-use units::zone_net::ZoneNet;
-use writing::sheet_writer::sheet_vec;
+use units::ZoneNet;
+use writing::sheet_vec;
 
 // The quarters of the examples.
 #[test]

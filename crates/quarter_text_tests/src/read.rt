@@ -1,7 +1,7 @@
 // What is read of a text.
 use crate::texts::{printed, sheet_of, stretched, with_head};
-use quarter_text::reading::read_quarter;
-use source::price_source::PriceSource;
+use quarter_text::read_quarter;
+use source::PriceSource;
 use std::test::Fail;
 
 #[test]

@@ -1,11 +1,11 @@
 // Where texts are refused, and why.
 use crate::texts::{fault_in, fault_of, stretched};
-use quarter_text::fault::Part::{self, Avoided, AvoidedValue, DownPrice, End, Net, Slots, UpPrice};
-use quarter_text::fault::Problem::{
+use quarter_text::Part::{self, Avoided, AvoidedValue, DownPrice, End, Net, Slots, UpPrice};
+use quarter_text::Problem::{
     BackwardRange, Bounds, Expected, Missing, NamedTwice, NoSuchSlot, NotWholeKw,
 };
 use std::test::Fail;
-use units::bounds::OutOfBounds::{Demand, Price, ZoneNet};
+use units::OutOfBounds::{Demand, Price, ZoneNet};
 
 #[test]
 fn head_lines(rt: HostRuntime) {

@@ -1,10 +1,7 @@
 // What the library makes of a text.
-use quarter_text::fault::{Problem, ReadFault, TextFault};
-use quarter_text::message::{Message, word_of};
-use quarter_text::printing::quarter_text;
-use quarter_text::reading::read_quarter;
+use quarter_text::{Message, Problem, ReadFault, TextFault, quarter_text, read_quarter, word_of};
 use std::alloc::{AllocError, Global};
-use writing::sheet_writer::sheet_vec;
+use writing::sheet_vec;
 
 /// A text with a megabyte of the middle part.
 pub(crate) fn stretched(

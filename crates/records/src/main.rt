@@ -1,7 +1,7 @@
 // Prints a line for each record of a packed sheet on standard input.
 #![tactic(auto)]
 
-use lines::record_lines::RecordLines;
+use lines::RecordLines;
 use std::io;
 use std::io::Read;
 

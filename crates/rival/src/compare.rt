@@ -5,19 +5,14 @@ use crate::plain::{DEMAND, PRICE, Plain, Quarter, UNREPORTED, ZONE_NET, is_withi
 use crate::reader::{Told, read};
 use crate::rules::{Quote, RULES, Rules, quote_of};
 use crate::writer::sheet_of;
-use lines::quarter_lines::lines_of;
-use pricing::fault::QuoteFault;
-use pricing::quote::quote_source;
-use pricing::rulebooks::Finnish;
-use sheet::sheet::Sheet;
-use source::netting_fill::NettingFill;
-use source::table::{Row, Table};
+use lines::lines_of;
+use pricing::{Finnish, QuoteFault, quote_source};
+use sheet::Sheet;
+use source::{NettingFill, Row, Table};
 use std::alloc::{AllocError, Global};
 use std::fmt;
-use units::price::Price;
-use units::quantity::Quantity;
-use units::zone_net::ZoneNet;
-use writing::sheet_writer::sheet_vec;
+use units::{Price, Quantity, ZoneNet};
+use writing::sheet_vec;
 
 /// The printed lines of both, whether all else agrees, and what became of the sheet.
 #[derive(Drop)]

@@ -3,15 +3,11 @@ use crate::fault::{Fault, Numbered};
 use crate::generator::Dice;
 use crate::ledger::{Ledger, PARTIES, PERIODS};
 use crate::plain::{PRICE, SLOTS};
-use metering::meter_values::MeterValues;
-use pricing::rulebooks::Finnish;
-use settlement::book::Book;
-use settlement::fault::BookFault;
-use settlement::quarter::Quarter;
-use source::table::{Row, Table};
-use units::price::Price;
-use units::quantity::Quantity;
-use units::zone_net::ZoneNet;
+use metering::MeterValues;
+use pricing::Finnish;
+use settlement::{Book, BookFault, Quarter};
+use source::{Row, Table};
+use units::{Price, Quantity, ZoneNet};
 
 /// The answers to one call: cents or kWh, none for a quarter that stays blank, or a refusal.
 #[derive(Clone, Copy)]

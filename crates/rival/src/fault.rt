@@ -46,7 +46,7 @@ pub(crate) struct Numbered {
 
 impl Numbered {
     /// What a refusal of the library says of itself.
-    pub(crate) fn of<F: units::refusal::Refusal>(fault: F) -> Numbered {
+    pub(crate) fn of<F: units::Refusal>(fault: F) -> Numbered {
         Numbered {
             number: fault.number(),
             place: fault.place(),

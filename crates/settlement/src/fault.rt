@@ -3,9 +3,9 @@ ghost use Rattle.std.specs.Prelude.{◌≡◌};
 ghost use Rattle.settlement.specs.Refusals.{book_number, book_place, count_number, count_place};
 ghost use Rattle.settlement.specs.declared.fault.BookFault.TheVariants.{Metering};
 
-use metering::fault::MeteringFault;
-use pricing::fault::QuoteFault;
-use units::refusal::Refusal;
+use metering::MeteringFault;
+use pricing::QuoteFault;
+use units::Refusal;
 
 #[derive(Clone, Copy, Debug)]
 pub enum BookFault {

@@ -5,8 +5,8 @@ ghost use Rattle.settlement.specs.Known.{nothing};
 ghost use Rattle.settlement.specs.declared.book.TheConstants.{MOST_PERIODS};
 
 use crate::book::MOST_PERIODS;
-use metering::imbalance::Imbalance;
-use units::euros::Amount;
+use metering::Imbalance;
+use units::Amount;
 
 /// A party's imbalance in each quarter, and what it was paid so far.
 #[derive(Clone, Copy)]

@@ -2,9 +2,8 @@
 ghost use Rattle.std.specs.Prelude.{◌≡◌, ◌≤◌, ◌*ℤ◌, unsigned_abs};
 ghost use Rattle.settlement.specs.Standings.{quote_in, standing_cents};
 
-use metering::imbalance::Imbalance;
-use pricing::fault::QuoteFault;
-use pricing::quote::Quote;
+use metering::Imbalance;
+use pricing::{Quote, QuoteFault};
 
 /// A quarter with what is filed of it: the direction, code and price of its quote.
 #[derive(Clone, Copy)]

@@ -1,15 +1,9 @@
 // Calls with plain numbers.
-use metering::imbalance::Imbalance;
-use metering::meter_values::MeterValues;
-use pricing::rulebooks::Finnish;
-use settlement::book::Book;
-use settlement::fault::BookFault;
-use settlement::quarter::Quarter;
-use source::table::{Row, Table};
-use units::price::Price;
-use units::quantity::Quantity;
-use units::refusal::Refusal;
-use units::zone_net::ZoneNet;
+use metering::{Imbalance, MeterValues};
+use pricing::Finnish;
+use settlement::{Book, BookFault, Quarter};
+use source::{Row, Table};
+use units::{Price, Quantity, Refusal, ZoneNet};
 
 /// Prices a quarter of so many idle slots at the avoided value, where there is one.
 pub(crate) fn price(

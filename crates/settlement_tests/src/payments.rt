@@ -1,7 +1,7 @@
 // Payments worked by hand.
 use crate::calls::{meter, price_at};
-use metering::meter_values::MeterValues;
-use settlement::book::Book;
+use metering::MeterValues;
+use settlement::Book;
 use std::test::Fail;
 
 // Half a cent is paid as one cent, and the next half cent as none.

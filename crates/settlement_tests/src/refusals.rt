@@ -1,11 +1,9 @@
 // Each refusal in its order, and a book that a refused call left as it was.
 use crate::calls::{meter, price, price_at, refused};
-use metering::meter_values::MeterValues;
-use settlement::book::Book;
-use settlement::fault::CountFault;
-use settlement::quarter::Quarter;
+use metering::MeterValues;
+use settlement::{Book, CountFault, Quarter};
 use std::test::Fail;
-use units::refusal::Refusal;
+use units::Refusal;
 
 fn not_started(periods: usize, parties: usize, count: CountFault) -> bool {
     let started = Book::start(periods, parties);

@@ -4,9 +4,9 @@ ghost use Rattle.sheet.specs.Faults.{number_spot, number_number, number_place, r
 ghost use Rattle.sheet.specs.declared.fault.RecordFault.TheVariants.{Number};
 ghost use Rattle.sheet.specs.declared.fault.SheetFault.TheVariants.{Head, Slot};
 
-use source::slot::SLOTS;
+use source::SLOTS;
 use std::fmt;
-use units::refusal::Refusal;
+use units::Refusal;
 
 /// The slot number that is given for a byte of the head, and after the last slot.
 pub const HEAD: usize = SLOTS;

@@ -4,8 +4,7 @@ ghost use Rattle.sheet.specs.Heads.{opens, opening, front, avoided_at, head_of};
 
 use crate::fault::{HEAD, SheetFault, Spot};
 use crate::part::Part;
-use units::price::Price;
-use units::zone_net::ZoneNet;
+use units::{Price, ZoneNet};
 
 /// The bytes that open every sheet.
 pub const OPENING: &[u8; 4] = b"ISP1";

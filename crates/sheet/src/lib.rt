@@ -1,10 +1,16 @@
 // A packed sheet of one quarter hour: bytes that are read, checked and asked as a price source.
 #![tactic(auto)]
 
-pub mod fault;
-pub mod head;
+mod fault;
+mod head;
 mod number;
 mod part;
-pub mod reader;
-pub mod sheet;
-pub mod slot_record;
+mod reader;
+mod sheet;
+mod slot_record;
+
+pub use fault::{HEAD, NumberFault, RecordFault, SheetFault, Spot};
+pub use head::{Head, OPENING};
+pub use reader::Reader;
+pub use sheet::Sheet;
+pub use slot_record::Record;

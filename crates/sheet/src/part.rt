@@ -4,7 +4,7 @@ ghost use Rattle.sheet.specs.Numbers.{quantity};
 
 use crate::fault::{NumberFault, Spot};
 use crate::number::{GroupsFault, read_groups, unfold_sign};
-use units::quantity::Quantity;
+use units::Quantity;
 
 /// Bytes of a sheet, and the spot at which they begin.
 #[derive(Clone, Copy)]

@@ -5,7 +5,7 @@ use crate::fault::{SheetFault, Spot};
 use crate::head::Head;
 use crate::part::Part;
 use crate::slot_record::Record;
-use source::slot::SLOTS;
+use source::SLOTS;
 
 /// The records of a sheet from the next slot on, up to the sheet's end or first fault.
 #[derive(Drop)]

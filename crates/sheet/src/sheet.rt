@@ -6,10 +6,8 @@ ghost use Rattle.sheet.specs.Sheets.{closed, first_fault, sheet_avoided, sheet_m
 use crate::fault::SheetFault;
 use crate::head::Head;
 use crate::reader::Reader;
-use source::price_source::PriceSource;
-use source::slot::{NoSuchSlot, SLOTS, Slot};
-use units::price::Price;
-use units::zone_net::ZoneNet;
+use source::{NoSuchSlot, PriceSource, SLOTS, Slot};
+use units::{Price, ZoneNet};
 
 /// A sheet of any bytes, with what they tell and their first fault.
 #[derive(Drop)]

@@ -6,9 +6,8 @@ ghost use Rattle.sheet.specs.Steps.{record_seen};
 
 use crate::fault::{NumberFault, RecordFault, Spot};
 use crate::part::Part;
-use source::slot::{Reading, Slot};
-use units::demand::Demand;
-use units::price::Price;
+use source::{Reading, Slot};
+use units::{Demand, Price};
 
 /// A slot as the sheet has it: by its lead byte, with what it tells, the bytes after the lead byte, and the place of the
 /// lead byte.

@@ -5,8 +5,7 @@ ghost use Rattle.source.specs.Fills.{fill_slot, filled_meaning};
 use crate::price_source::PriceSource;
 use crate::product::Product;
 use crate::slot::{NoSuchSlot, Reading, Slot};
-use units::price::Price;
-use units::zone_net::ZoneNet;
+use units::{Price, ZoneNet};
 
 fn fill_slot(avoided: Option<Price>, slot: Slot) -> Slot
     ensures { result ≡ fill_slot avoided slot }

@@ -3,8 +3,7 @@ ghost use Rattle.std.specs.Prelude.{◌≡◌};
 ghost use Rattle.source.specs.Meanings.{Meaning, slot_answer};
 
 use crate::slot::{NoSuchSlot, Slot};
-use units::price::Price;
-use units::zone_net::ZoneNet;
+use units::{Price, ZoneNet};
 
 /// Whatever tells the slots of a quarter, its zone net and its avoided value. A question changes nothing.
 pub trait PriceSource {

@@ -4,9 +4,7 @@ ghost use Rattle.source.specs.Slots.{formed};
 ghost use Rattle.source.specs.Refusals.{slot_number, slot_place};
 
 use crate::direction::Direction;
-use units::demand::Demand;
-use units::price::Price;
-use units::refusal::Refusal;
+use units::{Demand, Price, Refusal};
 
 /// The slots of a quarter.
 pub const SLOTS: usize = 228;

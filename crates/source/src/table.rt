@@ -4,11 +4,7 @@ ghost use Rattle.source.specs.Tables.{idle, price_if_any, row_slot, table_meanin
 
 use crate::price_source::PriceSource;
 use crate::slot::{NoSuchSlot, Reading, SLOTS, Slot};
-use units::bounds::OutOfBounds;
-use units::demand::Demand;
-use units::price::Price;
-use units::quantity::Quantity;
-use units::zone_net::ZoneNet;
+use units::{Demand, OutOfBounds, Price, Quantity, ZoneNet};
 
 /// What telemetry has of a slot: kW, and cents per MWh where a price is formed.
 #[derive(Clone, Copy)]

@@ -1,13 +1,23 @@
 // Quantities of a quarter hour. Each lies in its bounds from its making, so no later call checks it again.
 #![tactic(auto)]
 
-pub mod bounds;
-pub mod demand;
-pub mod euros;
-pub mod fraction;
-pub mod price;
-pub mod quantity;
-pub mod ratio;
-pub mod refusal;
-pub mod rounding;
-pub mod zone_net;
+mod bounds;
+mod demand;
+mod euros;
+mod fraction;
+mod price;
+mod quantity;
+mod ratio;
+mod refusal;
+mod rounding;
+mod zone_net;
+
+pub use bounds::OutOfBounds;
+pub use demand::Demand;
+pub use euros::Amount;
+pub use fraction::Fraction;
+pub use price::Price;
+pub use quantity::Quantity;
+pub use ratio::Ratio;
+pub use refusal::Refusal;
+pub use zone_net::ZoneNet;

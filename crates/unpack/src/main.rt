@@ -1,8 +1,8 @@
 // Reads a packed sheet from standard input, and prints its quarter as plain text.
 #![tactic(auto)]
 
-use quarter_text::printing::quarter_text;
-use sheet::sheet::Sheet;
+use quarter_text::quarter_text;
+use sheet::Sheet;
 use std::io;
 use std::io::Read;
 use std::process::ExitCode;

@@ -2,6 +2,9 @@
 #![tactic(auto)]
 
 mod number;
-pub mod sheet_writer;
-pub mod short_buffer;
+mod sheet_writer;
+mod short_buffer;
 mod slot_writer;
+
+pub use sheet_writer::{sheet_len, sheet_vec, write_sheet};
+pub use short_buffer::ShortBuffer;

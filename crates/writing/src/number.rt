@@ -5,7 +5,7 @@ ghost use Rattle.writing.specs.Bytes.{folded, groups_of, number_bytes};
 ghost use Rattle.writing.specs.declared.number.TheConstants.{MOST};
 
 use arrayvec::ArrayVec;
-use units::quantity::Quantity;
+use units::Quantity;
 
 /// The most bytes of a sheet: 13 for the head, and 13 for each of its 228 slots.
 pub(crate) const MOST: usize = 2_977;

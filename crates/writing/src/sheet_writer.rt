@@ -7,10 +7,8 @@ ghost use Rattle.writing.specs.Writes.{left, written};
 use crate::number::{SheetBytes, put_quantity};
 use crate::short_buffer::ShortBuffer;
 use crate::slot_writer::{put_avoided, put_slot};
-use sheet::head::OPENING;
-use source::price_source::PriceSource;
-use source::slot::SLOTS;
-use source::telling::told;
+use sheet::OPENING;
+use source::{PriceSource, SLOTS, told};
 use std::alloc::{AllocError, Global};
 
 fn sheet_of<S: PriceSource>(source: &S) -> SheetBytes

@@ -1,7 +1,7 @@
 // The refusal of a buffer.
 ghost use Rattle.writing.specs.Writes.{buffer_number, buffer_place};
 
-use units::refusal::Refusal;
+use units::Refusal;
 
 /// The buffer is too short to write in.
 #[derive(Clone, Copy, Debug)]

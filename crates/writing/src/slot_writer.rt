@@ -6,8 +6,8 @@ ghost use Rattle.writing.specs.Bytes.{avoided_bytes, price_bytes, reading_bytes,
 ghost use Rattle.writing.specs.declared.number.TheConstants.{MOST};
 
 use crate::number::{SheetBytes, put_quantity};
-use source::slot::{Reading, Slot};
-use units::price::Price;
+use source::{Reading, Slot};
+use units::Price;
 
 fn lead_of(up: Option<Price>, down: Option<Price>) -> u8
     ensures { result ≡ by_prices up down }

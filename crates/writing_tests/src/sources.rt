@@ -1,13 +1,7 @@
 // Bounds, tables and the netting fill.
-use source::netting_fill::NettingFill;
-use source::price_source::PriceSource;
-use source::table::{Row, Table};
+use source::{NettingFill, PriceSource, Row, Table};
 use std::test::Fail;
-use units::demand::Demand;
-use units::price::Price;
-use units::quantity::Quantity;
-use units::refusal::Refusal;
-use units::zone_net::ZoneNet;
+use units::{Demand, Price, Quantity, Refusal, ZoneNet};
 
 /// Whether an answer is the refusal with this number and place.
 pub(crate) fn refused<T: Drop, F: Refusal>(

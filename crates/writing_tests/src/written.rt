@@ -1,14 +1,10 @@
 // Sheets written from sources, and read again.
 use crate::sources::refused;
-use sheet::sheet::Sheet;
-use source::netting_fill::NettingFill;
-use source::price_source::PriceSource;
-use source::table::{Row, Table};
+use sheet::Sheet;
+use source::{NettingFill, PriceSource, Row, Table};
 use std::test::Fail;
-use units::price::Price;
-use units::quantity::Quantity;
-use units::zone_net::ZoneNet;
-use writing::sheet_writer::{sheet_len, sheet_vec, write_sheet};
+use units::{Price, Quantity, ZoneNet};
+use writing::{sheet_len, sheet_vec, write_sheet};
 
 // A table of no rows has the least sheet but for its head.
 #[test]

@@ -10,13 +10,10 @@ ghost use Rattle.settlement.specs.steps.Turns.{Turned, meets};
 use crate::book::Book;
 use crate::fault::BookFault;
 use crate::quarter::{Call, Quarter};
-use metering::imbalance::Imbalance;
-use metering::meter_values::MeterValues;
-use pricing::quote::quote_source;
-use pricing::rulebook::Rulebook;
-use source::price_source::PriceSource;
-use units::euros::Amount;
-use units::fraction::Fraction;
+use metering::{Imbalance, MeterValues};
+use pricing::{Rulebook, quote_source};
+use source::PriceSource;
+use units::{Amount, Fraction};
 
 impl Book {
     // The quarter's standing and the call, matched together; the quarter is changed in place.

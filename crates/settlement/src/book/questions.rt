@@ -9,8 +9,8 @@ ghost use Rattle.settlement.specs.Runs.{Run, imbalance_after, payments_since, qu
 use crate::book::Book;
 use crate::fault::BookFault;
 use crate::quarter::Quarter;
-use metering::imbalance::Imbalance;
-use units::euros::Amount;
+use metering::Imbalance;
+use units::Amount;
 
 impl Book {
     /// How the quarter stands, with what is filed of it. Refused with 9.

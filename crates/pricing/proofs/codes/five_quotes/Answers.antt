@@ -1,6 +1,6 @@
 use Rattle.pricing.proofs.Only.{only_five}
 use Rattle.pricing.proofs.Quoting.{from_five}
-use Rattle.pricing.proofs.five_quotes.five_quotes.Goals as goal
+use Rattle.pricing.proofs.codes.five_quotes.Goals as goal
 
 pub returns-in-Ok-clause-quotes_of_the_source : goal.returns-in-Ok-clause-quotes_of_the_source
 returns-in-Ok-clause-quotes_of_the_source g c =

@@ -1,15 +1,13 @@
 // The quotes of a quarter under codes 1 to 5.
 ghost use Rattle.std.specs.Prelude.{◌≡◌};
 ghost use Rattle.pricing.specs.FiveQuotes.{AreQuotesOfFigures, AreQuotesOfSource, all_unreported};
-ghost use Rattle.pricing.specs.declared.five_quotes.FiveQuotes.{FiveQuotes};
+ghost use Rattle.pricing.specs.declared.codes.FiveQuotes.{FiveQuotes};
 
 use crate::fault::QuoteFault;
 use crate::quote::{Quote, quote_figures};
 use crate::rulebooks::{CombinedAll, CombinedAutomatic, Finnish, MaxMin, WeightedAverage};
-use figures::fault::UnreportedSlot;
-use figures::gathering::figures_of;
-use figures::quarter_figures::Figures;
-use source::price_source::PriceSource;
+use figures::{Figures, UnreportedSlot, figures_of};
+use source::PriceSource;
 
 /// The quote of each of the five rulebooks, or its refusal.
 #[derive(Clone, Copy)]
