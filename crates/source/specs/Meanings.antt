@@ -6,6 +6,7 @@ use Rattle.source.specs.Slots.{Slot}
 use Rattle.units.specs.declared.price.Price.{Price}
 use Rattle.units.specs.declared.zone_net.ZoneNet.{ZoneNet}
 
+-- what a source tells: each slot, the zone net, and the avoided value if there is one
 pub record Meaning : Type 0 where
   pub slots : ℕ → Slot
   pub zone : ZoneNet

@@ -4,19 +4,21 @@ use mathlib.Core.HLevel.{is_prop→PathP}
 use native.Mathlib.Bridge.{le_prop}
 use Rattle.units.specs.declared.bounds.OutOfBounds.{OutOfBounds}
 use Rattle.units.specs.declared.bounds.OutOfBounds.TheVariants as is
+use Rattle.units.specs.declared.bounds.TheConstants.{MOST_CENTS, MOST_KW, MOST_ZONE_KW}
 use Rattle.units.specs.declared.demand.Demand.{Demand}
 use Rattle.units.specs.declared.price.Price.{Price}
 use Rattle.units.specs.declared.zone_net.ZoneNet.{ZoneNet}
-use Rattle.units.specs.Quantities.{if_t, price_of, demand_of, zone_net_of}
+use Rattle.units.specs.Quantities.{price_of, demand_of, zone_net_of}
+use Rattle.units.specs.steps.Made.{if_t}
 
 pub price_same : (p q : Price) → p.cents ≡ q.cents → p ≡ q
-price_same p q e = λ i. record { cents = e i; bounded = is_prop→PathP (λ j. nat_abs (e j) ≤ 9_999_900) (λ j. le_prop) p.bounded q.bounded i }
+price_same p q e = λ i. record { cents = e i; bounded = is_prop→PathP (λ j. nat_abs (e j) ≤ MOST_CENTS) (λ j. le_prop) p.bounded q.bounded i }
 
 pub demand_same : (p q : Demand) → p.kw ≡ q.kw → p ≡ q
-demand_same p q e = λ i. record { kw = e i; bounded = is_prop→PathP (λ j. nat_abs (e j) ≤ 10_000_000) (λ j. le_prop) p.bounded q.bounded i }
+demand_same p q e = λ i. record { kw = e i; bounded = is_prop→PathP (λ j. nat_abs (e j) ≤ MOST_KW) (λ j. le_prop) p.bounded q.bounded i }
 
 pub zone_net_same : (p q : ZoneNet) → p.kw ≡ q.kw → p ≡ q
-zone_net_same p q e = λ i. record { kw = e i; bounded = is_prop→PathP (λ j. nat_abs (e j) ≤ 100_000_000) (λ j. le_prop) p.bounded q.bounded i }
+zone_net_same p q e = λ i. record { kw = e i; bounded = is_prop→PathP (λ j. nat_abs (e j) ≤ MOST_ZONE_KW) (λ j. le_prop) p.bounded q.bounded i }
 
 if_t_holds : {X : Type 0} (b : Bool) (f : T b → X) (x y : X) → T b → ((t : T b) → y ≡ f t) → y ≡ if_t b f x
 if_t_holds true f x y t e = e tt
@@ -28,13 +30,13 @@ module _ {X : Type 0} (k : ℕ) (val : X → ℤ) (ok : (x : X) → nat_abs (val
   made_is z x e v = if_t_holds (leb (nat_abs z) k) (make z) (Err e) (Ok x) (le→leb (nat_abs z) k (subst (λ w. nat_abs w ≤ k) v (ok x))) (λ h. same x z h v)
 
 pub price_made : (z : ℤ) (p : Price) → p.cents ≡ z → Ok p ≡ price_of z
-price_made z p = made_is 9_999_900 (λ p. p.cents) (λ p. p.bounded)
-    (λ z h. Ok (record { cents = z; bounded = leb→le (nat_abs z) 9_999_900 h })) (λ x z h e. ap Ok (price_same x _ e)) z p is.Price
+price_made z p = made_is MOST_CENTS (λ p. p.cents) (λ p. p.bounded)
+    (λ z h. Ok (record { cents = z; bounded = leb→le (nat_abs z) MOST_CENTS h })) (λ x z h e. ap Ok (price_same x _ e)) z p is.Price
 
 pub demand_made : (z : ℤ) (p : Demand) → p.kw ≡ z → Ok p ≡ demand_of z
-demand_made z p = made_is 10_000_000 (λ p. p.kw) (λ p. p.bounded)
-    (λ z h. Ok (record { kw = z; bounded = leb→le (nat_abs z) 10_000_000 h })) (λ x z h e. ap Ok (demand_same x _ e)) z p is.Demand
+demand_made z p = made_is MOST_KW (λ p. p.kw) (λ p. p.bounded)
+    (λ z h. Ok (record { kw = z; bounded = leb→le (nat_abs z) MOST_KW h })) (λ x z h e. ap Ok (demand_same x _ e)) z p is.Demand
 
 pub zone_net_made : (z : ℤ) (p : ZoneNet) → p.kw ≡ z → Ok p ≡ zone_net_of z
-zone_net_made z p = made_is 100_000_000 (λ p. p.kw) (λ p. p.bounded)
-    (λ z h. Ok (record { kw = z; bounded = leb→le (nat_abs z) 100_000_000 h })) (λ x z h e. ap Ok (zone_net_same x _ e)) z p is.ZoneNet
+zone_net_made z p = made_is MOST_ZONE_KW (λ p. p.kw) (λ p. p.bounded)
+    (λ z h. Ok (record { kw = z; bounded = leb→le (nat_abs z) MOST_ZONE_KW h })) (λ x z h e. ap Ok (zone_net_same x _ e)) z p is.ZoneNet

@@ -8,6 +8,7 @@ pub record Exact : Type 0 where
   pub n : ℤ
   pub d : ℕ
 
+-- what a fraction of the code stands for
 abbrev pub exact_of : Ratio → Exact
 exact_of r = record { n = r.n; d = r.d }
 

@@ -4,3 +4,4 @@ pub mod Exact
 pub mod Quantities
 pub mod Rounding
 pub mod Text
+pub mod steps

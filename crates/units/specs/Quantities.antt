@@ -1,40 +1,37 @@
 -- A price, a demand and a zone net of a plain number, or the refusal where it is out of bounds.
-use Rattle.std.specs.Prelude.{ℕ, Bool, true, false, cond, T, ℤ, pos, negsuc, Ok, Err, Result, nat_le, unsigned_abs}
-use Rattle.std.proofs.Common.{leb→le, lit≤}
+use Rattle.std.specs.Prelude.{ℕ, ℤ, pos, neg_ℤ, Ok, Err, Result, nat_le, unsigned_abs, if◌then◌else◌}
+use Rattle.std.proofs.Common.{lit≤}
 use Rattle.units.specs.declared.bounds.OutOfBounds.{OutOfBounds}
 use Rattle.units.specs.declared.bounds.OutOfBounds.TheVariants as is
+use Rattle.units.specs.declared.bounds.TheConstants.{MOST_CENTS, MOST_KW, MOST_ZONE_KW}
 use Rattle.units.specs.declared.demand.Demand.{Demand}
 use Rattle.units.specs.declared.price.Price.{Price}
 use Rattle.units.specs.declared.zone_net.ZoneNet.{ZoneNet}
-
--- x, which may use that the test holds, or else y
-abbrev pub if_t : {X : Type 0} (b : Bool) → (T b → X) → X → X
-if_t true x y = x tt
-if_t false x y = y
+use Rattle.units.specs.steps.Made.{made_within}
 
 -- a number that is at most the limit in size, or the refusal
 abbrev pub within : ℕ → OutOfBounds → ℤ → Result ℤ OutOfBounds
-within limit beyond z = cond (nat_le (unsigned_abs z) limit) (Ok z) (Err beyond)
+within limit beyond z = if nat_le (unsigned_abs z) limit then Ok z else Err beyond
 
--- whole cents per MWh, from -9,999,900 to 9,999,900
+-- whole cents per MWh, at most 9,999,900 in size
 abbrev pub price_of : ℤ → Result Price OutOfBounds
-price_of z = if_t (nat_le (unsigned_abs z) 9_999_900) (λ h. Ok (record { cents = z; bounded = leb→le (unsigned_abs z) 9_999_900 h })) (Err is.Price)
+price_of z = made_within MOST_CENTS is.Price z (λ bounded. record { cents = z; bounded = bounded })
 
--- whole kW, from -10,000,000 to 10,000,000
+-- whole kW, at most 10,000,000 in size
 abbrev pub demand_of : ℤ → Result Demand OutOfBounds
-demand_of z = if_t (nat_le (unsigned_abs z) 10_000_000) (λ h. Ok (record { kw = z; bounded = leb→le (unsigned_abs z) 10_000_000 h })) (Err is.Demand)
+demand_of z = made_within MOST_KW is.Demand z (λ bounded. record { kw = z; bounded = bounded })
 
--- whole kW, from -100,000,000 to 100,000,000
+-- whole kW of a price zone, at most 100,000,000 in size
 abbrev pub zone_net_of : ℤ → Result ZoneNet OutOfBounds
-zone_net_of z = if_t (nat_le (unsigned_abs z) 100_000_000) (λ h. Ok (record { kw = z; bounded = leb→le (unsigned_abs z) 100_000_000 h })) (Err is.ZoneNet)
+zone_net_of z = made_within MOST_ZONE_KW is.ZoneNet z (λ bounded. record { kw = z; bounded = bounded })
 
 -- the least price there is
 abbrev pub lowest_price : Price
-lowest_price = record { cents = negsuc 9_999_899; bounded = lit≤ tt }
+lowest_price = record { cents = neg_ℤ (pos MOST_CENTS); bounded = lit≤ tt }
 
 -- the greatest
 abbrev pub highest_price : Price
-highest_price = record { cents = pos 9_999_900; bounded = lit≤ tt }
+highest_price = record { cents = pos MOST_CENTS; bounded = lit≤ tt }
 
 -- the net of a zone of which nothing is told
 abbrev pub no_net : ZoneNet

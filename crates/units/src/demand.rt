@@ -1,13 +1,14 @@
 // A satisfied demand of the area in whole kW, up positive.
 ghost use Rattle.std.specs.Prelude.{◌≡◌, ◌≤◌, unsigned_abs};
+ghost use Rattle.units.specs.declared.bounds.TheConstants.{MOST_KW};
 
-use crate::bounds::OutOfBounds;
+use crate::bounds::{MOST_KW, OutOfBounds};
 use crate::quantity::{Quantity, within};
 
 #[derive(Clone, Copy, PartialEq, Eq)]
 pub struct Demand {
     pub(crate) kw: i32,
-    ghost bounded: { unsigned_abs kw ≤ 10_000_000 },
+    ghost bounded: { unsigned_abs kw ≤ MOST_KW },
 }
 
 impl Demand {
@@ -26,7 +27,7 @@ impl Quantity for Demand {
     ghost number_of = { λ d. d.kw };
 
     fn new(number: i64) -> Result<Demand, OutOfBounds> {
-        let kw = within::<10_000_000>(number, OutOfBounds::Demand)?;
+        let kw = within::<MOST_KW>(number, OutOfBounds::Demand)?;
         Ok(Demand { kw })
     }
 

@@ -1,5 +1,6 @@
 // Division to the nearest whole number.
 ghost use Rattle.std.specs.Prelude.{◌≡◌, ◌≤◌};
+ghost use Rattle.units.specs.declared.bounds.TheConstants.{MOST_DENOMINATOR};
 ghost use Rattle.units.specs.Rounding.{rounded};
 
 /// `n / d`, with a denominator from 1 to 9,000,000,000.
@@ -8,7 +9,7 @@ pub struct Fraction {
     pub n: i64,
     pub d: u64,
     ghost divides: { 1 ≤ d },
-    ghost few: { d ≤ 9_000_000_000 },
+    ghost bounded_denominator: { d ≤ MOST_DENOMINATOR },
 }
 
 impl Fraction {

@@ -12,7 +12,7 @@ mod refusal;
 mod rounding;
 mod zone_net;
 
-pub use bounds::OutOfBounds;
+pub use bounds::{MOST_CENTS, MOST_DENOMINATOR, MOST_KW, MOST_ZONE_KW, OutOfBounds};
 pub use demand::Demand;
 pub use euros::Amount;
 pub use fraction::Fraction;

@@ -1,13 +1,14 @@
 // A price in whole cents per MWh.
 ghost use Rattle.std.specs.Prelude.{◌≡◌, ◌≤◌, unsigned_abs};
+ghost use Rattle.units.specs.declared.bounds.TheConstants.{MOST_CENTS};
 
-use crate::bounds::OutOfBounds;
+use crate::bounds::{MOST_CENTS, OutOfBounds};
 use crate::quantity::{Quantity, within};
 
 #[derive(Clone, Copy, PartialEq, Eq, PartialOrd, Ord)]
 pub struct Price {
     pub(crate) cents: i32,
-    ghost bounded: { unsigned_abs cents ≤ 9_999_900 },
+    ghost bounded: { unsigned_abs cents ≤ MOST_CENTS },
 }
 
 impl Price {
@@ -17,14 +18,18 @@ impl Price {
     pub fn lowest() -> Price
         ensures { result ≡ lowest_price }
     {
-        Price { cents: -9_999_900 }
+        Price {
+            cents: -(MOST_CENTS as i32),
+        }
     }
 
     /// The greatest.
     pub fn highest() -> Price
         ensures { result ≡ highest_price }
     {
-        Price { cents: 9_999_900 }
+        Price {
+            cents: MOST_CENTS as i32,
+        }
     }
 
     pub fn cents(self) -> i64
@@ -42,7 +47,7 @@ impl Quantity for Price {
     ghost number_of = { λ p. p.cents };
 
     fn new(number: i64) -> Result<Price, OutOfBounds> {
-        let cents = within::<9_999_900>(number, OutOfBounds::Price)?;
+        let cents = within::<MOST_CENTS>(number, OutOfBounds::Price)?;
         Ok(Price { cents })
     }
 

@@ -28,7 +28,7 @@ impl Ratio {
 
     /// The nearest cent, a half going away from zero.
     pub fn nearest_cent(self) -> Price
-        ensures value { result.cents ≡ rounded self.n self.d }
+        ensures rounded { result.cents ≡ rounded self.n self.d }
         ensures nearest { Nearest self.n self.d result.cents }
         ensures only { (z : ℤ) → Nearest self.n self.d z → z ≡ result.cents }
         ensures symmetric { rounded (neg_ℤ self.n) self.d ≡ neg_ℤ result.cents }

@@ -1,13 +1,14 @@
 // The net demand of the price zone in whole kW, up positive.
 ghost use Rattle.std.specs.Prelude.{◌≡◌, ◌≤◌, unsigned_abs};
+ghost use Rattle.units.specs.declared.bounds.TheConstants.{MOST_ZONE_KW};
 
-use crate::bounds::OutOfBounds;
+use crate::bounds::{MOST_ZONE_KW, OutOfBounds};
 use crate::quantity::{Quantity, within};
 
 #[derive(Clone, Copy, PartialEq, Eq)]
 pub struct ZoneNet {
     pub(crate) kw: i32,
-    ghost bounded: { unsigned_abs kw ≤ 100_000_000 },
+    ghost bounded: { unsigned_abs kw ≤ MOST_ZONE_KW },
 }
 
 impl ZoneNet {
@@ -35,7 +36,7 @@ impl Quantity for ZoneNet {
     ghost number_of = { λ n. n.kw };
 
     fn new(number: i64) -> Result<ZoneNet, OutOfBounds> {
-        let kw = within::<100_000_000>(number, OutOfBounds::ZoneNet)?;
+        let kw = within::<MOST_ZONE_KW>(number, OutOfBounds::ZoneNet)?;
         Ok(ZoneNet { kw })
     }
 

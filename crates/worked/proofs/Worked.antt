@@ -1,5 +1,7 @@
 -- Each figure worked by hand follows from the definitions.
-use Rattle.std.proofs.Common.{[], ◌∷◌, pos, negsuc, Some, None, refl}
+use Rattle.std.proofs.Common.{[], ◌∷◌, ℤ, pos, negsuc, Some, None, T, leb→le, refl}
+use Rattle.std.specs.Prelude.{nat_le, unsigned_abs}
+use Rattle.units.specs.declared.bounds.TheConstants.{MOST_CENTS}
 use Rattle.figures.specs.Sides.{counting_to, formed_to, net_to}
 use Rattle.pricing.specs.Rulings.{combined_all, combined_automatic, finnish, max_min, weighted_average}
 use Rattle.sheet.specs.Numbers.{quantity}
@@ -8,9 +10,13 @@ use Rattle.units.specs.Rounding.{half_up, rounded}
 use Rattle.units.specs.declared.price.Price.{Price}
 use Rattle.writing.specs.Bytes.{number_bytes}
 use Rattle.worked.specs.Cases.{WorkedByHand}
-use Rattle.worked.specs.Quarters.{balanced, cents, half_cent, manual_activated, manual_formed, three_levels}
+use Rattle.worked.specs.Quarters.{balanced, half_cent, manual_activated, manual_formed, three_levels}
 use Rattle.worked.specs.declared.by_hand.WorkedFigures.{WorkedFigures}
 use Rattle.worked.proofs.Figured.{by_direction, by_value, no_value}
+
+-- a price in its bounds
+abbrev cents : (z : ℤ) → T (nat_le (unsigned_abs z) MOST_CENTS) → Price
+cents z h = record { cents = z; bounded = leb→le (unsigned_abs z) MOST_CENTS h }
 
 -- what was worked by hand
 abbrev pub by_hand : WorkedFigures
@@ -46,12 +52,12 @@ worked =
       manual_activated_5 = by_direction manual_activated (λ k l. refl) 5 finnish Up (record { n = pos 405_000_000_000; d = 63_000_000 }) (cents (pos 6_429) tt) refl refl;
       manual_formed_5 = by_direction manual_formed (λ k l. refl) 5 finnish Up (record { n = pos 10_000; d = 1 }) (cents (pos 10_000) tt) refl refl;
       manual_formed_1 = by_direction manual_formed (λ k l. refl) 1 weighted_average Up (record { n = pos 225_000_000_000; d = 45_000_000 }) (cents (pos 5_000) tt) refl refl;
-      half_a_cent = by_direction (half_cent (cents (pos 1) tt)) (λ k l. refl) 1 weighted_average Up (record { n = pos 1; d = 2 }) (cents (pos 1) tt) refl refl;
-      half_a_cent_below = by_direction (half_cent (cents (negsuc 0) tt)) (λ k l. refl) 1 weighted_average Up (record { n = negsuc 0; d = 2 }) (cents (negsuc 0) tt) refl refl;
-      balanced_1 = by_value (balanced (Some seven)) (λ k l. refl) 1 weighted_average seven refl refl;
-      balanced_2 = by_value (balanced (Some seven)) (λ k l. refl) 2 combined_automatic seven refl refl;
-      balanced_3 = by_value (balanced (Some seven)) (λ k l. refl) 3 combined_all seven refl refl;
-      balanced_4 = by_value (balanced (Some seven)) (λ k l. refl) 4 max_min seven refl refl;
+      half_a_cent = by_direction (half_cent (pos 1)) (λ k l. refl) 1 weighted_average Up (record { n = pos 1; d = 2 }) (cents (pos 1) tt) refl refl;
+      half_a_cent_below = by_direction (half_cent (negsuc 0)) (λ k l. refl) 1 weighted_average Up (record { n = negsuc 0; d = 2 }) (cents (negsuc 0) tt) refl refl;
+      balanced_1 = by_value (balanced (Some (pos 700))) (λ k l. refl) 1 weighted_average seven refl refl;
+      balanced_2 = by_value (balanced (Some (pos 700))) (λ k l. refl) 2 combined_automatic seven refl refl;
+      balanced_3 = by_value (balanced (Some (pos 700))) (λ k l. refl) 3 combined_all seven refl refl;
+      balanced_4 = by_value (balanced (Some (pos 700))) (λ k l. refl) 4 max_min seven refl refl;
       no_value_1 = no_value (balanced None) (λ k l. refl) 1 weighted_average refl refl;
       no_value_2 = no_value (balanced None) (λ k l. refl) 2 combined_automatic refl refl;
       no_value_3 = no_value (balanced None) (λ k l. refl) 3 combined_all refl refl;

@@ -17,8 +17,8 @@ use Rattle.sheet.specs.declared.fault.Spot.{Spot}
 use Rattle.source.specs.Meanings.{Meaning}
 use Rattle.units.specs.Quantities.{zone_net_of}
 use Rattle.writing.specs.Bytes.{number_bytes}
-use Rattle.worked.specs.Quarters.{balanced, cents, half_cent, manual_activated, manual_formed, three_levels}
-use Rattle.worked.specs.Runs.{PaysNext, kwh, metered_at}
+use Rattle.worked.specs.Quarters.{balanced, half_cent, manual_activated, manual_formed, three_levels}
+use Rattle.worked.specs.Runs.{PaysNext, metered_at}
 use Rattle.worked.specs.declared.by_hand.WorkedFigures.{WorkedFigures}
 
 -- quoted under a rulebook, the source has this direction and this price in cents
@@ -43,21 +43,21 @@ pub record WorkedByHand (f : WorkedFigures) : Type 0 where
   pub manual_activated_5 : IsQuotedAs manual_activated 5 finnish Up f.manual_activated_finnish
   pub manual_formed_5 : IsQuotedAs manual_formed 5 finnish Up f.manual_formed_finnish
   pub manual_formed_1 : IsQuotedAs manual_formed 1 weighted_average Up f.manual_formed_weighted_average
-  pub half_a_cent : IsQuotedAs (half_cent (cents (pos 1) tt)) 1 weighted_average Up f.half_a_cent
-  pub half_a_cent_below : IsQuotedAs (half_cent (cents (negsuc 0) tt)) 1 weighted_average Up f.half_a_cent_below_zero
-  pub balanced_1 : IsQuotedAs (balanced (Some (cents (pos 700) tt))) 1 weighted_average Avoided f.balanced
-  pub balanced_2 : IsQuotedAs (balanced (Some (cents (pos 700) tt))) 2 combined_automatic Avoided f.balanced
-  pub balanced_3 : IsQuotedAs (balanced (Some (cents (pos 700) tt))) 3 combined_all Avoided f.balanced
-  pub balanced_4 : IsQuotedAs (balanced (Some (cents (pos 700) tt))) 4 max_min Avoided f.balanced
+  pub half_a_cent : IsQuotedAs (half_cent (pos 1)) 1 weighted_average Up f.half_a_cent
+  pub half_a_cent_below : IsQuotedAs (half_cent (negsuc 0)) 1 weighted_average Up f.half_a_cent_below_zero
+  pub balanced_1 : IsQuotedAs (balanced (Some (pos 700))) 1 weighted_average Avoided f.balanced
+  pub balanced_2 : IsQuotedAs (balanced (Some (pos 700))) 2 combined_automatic Avoided f.balanced
+  pub balanced_3 : IsQuotedAs (balanced (Some (pos 700))) 3 combined_all Avoided f.balanced
+  pub balanced_4 : IsQuotedAs (balanced (Some (pos 700))) 4 max_min Avoided f.balanced
   pub no_value_1 : LacksAvoidedValue (balanced None) 1 weighted_average
   pub no_value_2 : LacksAvoidedValue (balanced None) 2 combined_automatic
   pub no_value_3 : LacksAvoidedValue (balanced None) 3 combined_all
   pub no_value_4 : LacksAvoidedValue (balanced None) 4 max_min
   -- 1 kWh at 5.00 in period 0; then the same in period 1, once the first is settled
-  pub first_half_cent : (m : Meaning) (r : Rules) → PaysNext (metered_at m r 0 (cents (pos 500) tt) (kwh (pos 1) tt) []) f.first_half_cent
-  pub second_half_cent : (m : Meaning) (r : Rules) → PaysNext (metered_at m r 1 (cents (pos 500) tt) (kwh (pos 1) tt) (settling 0 (Ok (record { cents = f.first_half_cent })) ∷ metered_at m r 0 (cents (pos 500) tt) (kwh (pos 1) tt) [])) f.second_half_cent
-  pub surplus : (m : Meaning) (r : Rules) → PaysNext (metered_at m r 0 (cents (pos 5_000) tt) (kwh (pos 3_750) tt) []) f.surplus
-  pub deficit : (m : Meaning) (r : Rules) → PaysNext (metered_at m r 0 (cents (pos 7_000) tt) (kwh (negsuc 24_999) tt) []) f.deficit
+  pub first_half_cent : (m : Meaning) (r : Rules) → PaysNext (metered_at m r 0 (pos 500) (pos 1) []) f.first_half_cent
+  pub second_half_cent : (m : Meaning) (r : Rules) → PaysNext (metered_at m r 1 (pos 500) (pos 1) (settling 0 (Ok (record { cents = f.first_half_cent })) ∷ metered_at m r 0 (pos 500) (pos 1) [])) f.second_half_cent
+  pub surplus : (m : Meaning) (r : Rules) → PaysNext (metered_at m r 0 (pos 5_000) (pos 3_750) []) f.surplus
+  pub deficit : (m : Meaning) (r : Rules) → PaysNext (metered_at m r 0 (pos 7_000) (negsuc 24_999) []) f.deficit
   pub stored_0 : number_bytes (pos 0) ≡ f.stored_0
   pub stored_minus_1 : number_bytes (negsuc 0) ≡ f.stored_minus_1
   pub stored_64 : number_bytes (pos 64) ≡ f.stored_64

@@ -10,7 +10,9 @@ use Rattle.units.specs.declared.bounds.OutOfBounds.TheVariants as is
 use Rattle.units.specs.declared.demand.Demand.{Demand}
 use Rattle.units.specs.declared.price.Price.{Price}
 use Rattle.units.specs.declared.zone_net.ZoneNet.{ZoneNet}
-use Rattle.units.specs.Quantities.{if_t, demand_of, price_of, zone_net_of}
+use Rattle.units.specs.Quantities.{demand_of, price_of, zone_net_of}
+use Rattle.units.specs.declared.bounds.TheConstants.{MOST_CENTS, MOST_KW, MOST_ZONE_KW}
+use Rattle.units.specs.steps.Made.{if_t}
 use Rattle.sheet.specs.declared.fault.Spot.{Spot}
 use Rattle.sheet.specs.Groups.{groups, Groups, unfolded}
 use Rattle.sheet.specs.Numbers.{quantity, ahead}
@@ -86,10 +88,10 @@ module _ (p : Spot) (s : List ℕ) (from : ℕ) where
 
   module _ (b : AllByRecursion (λ x. x < 256) s) where
     pub demand_form : (g : Demand × ℕ) → quantity demand_of p s from ≡ Ok g → drop from s ≡ number_bytes g.0.kw ++ drop g.1 s
-    demand_form g = number_form demand_of p s from (λ d. d.kw) (λ z. value_of (leb (nat_abs z) 10_000_000) _ is.Demand (λ d. d.kw) z (λ h. refl)) b g.0 g.1
+    demand_form g = number_form demand_of p s from (λ d. d.kw) (λ z. value_of (leb (nat_abs z) MOST_KW) _ is.Demand (λ d. d.kw) z (λ h. refl)) b g.0 g.1
 
     pub price_form : (g : Price × ℕ) → quantity price_of p s from ≡ Ok g → drop from s ≡ number_bytes g.0.cents ++ drop g.1 s
-    price_form g = number_form price_of p s from (λ u. u.cents) (λ z. value_of (leb (nat_abs z) 9_999_900) _ is.Price (λ u. u.cents) z (λ h. refl)) b g.0 g.1
+    price_form g = number_form price_of p s from (λ u. u.cents) (λ z. value_of (leb (nat_abs z) MOST_CENTS) _ is.Price (λ u. u.cents) z (λ h. refl)) b g.0 g.1
 
     pub net_form : (g : ZoneNet × ℕ) → quantity zone_net_of p s from ≡ Ok g → drop from s ≡ number_bytes g.0.kw ++ drop g.1 s
-    net_form g = number_form zone_net_of p s from (λ u. u.kw) (λ z. value_of (leb (nat_abs z) 100_000_000) _ is.ZoneNet (λ u. u.kw) z (λ h. refl)) b g.0 g.1
+    net_form g = number_form zone_net_of p s from (λ u. u.kw) (λ z. value_of (leb (nat_abs z) MOST_ZONE_KW) _ is.ZoneNet (λ u. u.kw) z (λ h. refl)) b g.0 g.1

@@ -14,7 +14,7 @@ returns-clause-quote_of_the_ruling g c =
       price = c.nearest_cent.result;
       is = ap (λ k. Ok (record { code = k; direction = c.from.result; price = c.nearest_cent.result })) c.CODE-code.ensures
           ∙ ap (λ d. Ok (record { code = g.R.Rulebook.CODE; direction = d; price = c.nearest_cent.result })) c.from.ensures;
-      at = c.nearest_cent.ensures.value;
+      at = c.nearest_cent.ensures.rounded;
     })
 
 pub returns-clause-only_answer : goal.returns-clause-only_answer

@@ -6,4 +6,4 @@ use Rattle.figures.proofs.quarter_figures.Figures.automatic_mean.Goals as goal
 pub invariant_of-result : goal.invariant_of-result
 invariant_of-result c =
     let s = sizes_in c.args.self.now c.args.direction c.side.result c.side.ensures in
-    record { divides = omega arith; few = omega arith; bounded = omega (arith, ints) }
+    record { divides = omega arith; bounded_denominator = omega arith; bounded = omega (arith, ints) }

@@ -18,4 +18,4 @@ overflow_add-result c = let s = sizes_in c.args.self.now c.args.direction c.side
 pub invariant_of-result : goal.invariant_of-result
 invariant_of-result c =
     let s = sizes_in c.args.self.now c.args.direction c.side-side.result c.side-side.ensures in
-    record { divides = omega arith; few = omega arith; bounded = omega (arith, ints) }
+    record { divides = omega arith; bounded_denominator = omega arith; bounded = omega (arith, ints) }

@@ -30,7 +30,7 @@ returns c =
     let s = same c.args.self.n c.nearest.result c.args.self.d (search rules) c.nearest.ensures in
     let e : to_z w32 (of_z w32 (to_z w64 (of_z w64 c.nearest.result))) ≡ rounded n d = omega (arith, ints) in
     record {
-      value = omega (arith, ints);
+      rounded = omega (arith, ints);
       nearest = nearest_is n d some e;
       only = λ z h. only_nearest n d z some h ∙ sym e;
       symmetric = rounded_neg n d ∙ ap neg_ℤ (sym e);
