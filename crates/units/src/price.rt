@@ -12,6 +12,7 @@ pub struct Price {
 }
 
 impl Price {
+    ghost use Rattle.units.specs.Bounds.{BoundNumbers};
     ghost use Rattle.units.specs.Quantities.{lowest_price, highest_price};
 
     /// The least price there is.
@@ -25,7 +26,8 @@ impl Price {
 
     /// The greatest.
     pub fn highest() -> Price
-        ensures { result ≡ highest_price }
+        ensures highest { result ≡ highest_price }
+        ensures numbers { BoundNumbers }
     {
         Price {
             cents: MOST_CENTS as i32,
