@@ -8,16 +8,16 @@ use Rattle.figures.specs.declared.quarter_figures.Figures.{Figures}
 use Rattle.figures.specs.declared.side.Side.{Side}
 use Rattle.figures.proofs.Gathered.{side_sound}
 use Rattle.figures.proofs.Sound.{Sound, sound_prop}
-use Rattle.figures.proofs.Steps.{value_within}
+use Rattle.figures.proofs.Steps.{turnover_within}
 
 pub sound_in : (f : Figures) (d : Direction) → Sound (side_in d f)
-sound_in f Up = ∥∥₁_elim f.given (sound_prop f.up) (λ p. subst Sound (sym p.1.ups) (side_sound Up p.0.slots))
-sound_in f Down = ∥∥₁_elim f.given (sound_prop f.down) (λ p. subst Sound (sym p.1.downs) (side_sound Down p.0.slots))
+sound_in f Up = ∥∥₁_elim f.given (sound_prop f.up) (λ p. subst Sound (sym p.1.up_is) (side_sound Up p.0.slots))
+sound_in f Down = ∥∥₁_elim f.given (sound_prop f.down) (λ p. subst Sound (sym p.1.down_is) (side_sound Down p.0.slots))
 
 -- the sizes of the parts
 pub record Sizes (s : Side) : Type 0 where
   pub cycles : s.cycles.volume ≤ 2_250_000_000
-  pub value : nat_abs s.cycles.value ≤ 9_999_900 * s.cycles.volume
+  pub turnover : nat_abs s.cycles.turnover ≤ 9_999_900 * s.cycles.volume
   pub scheduled : s.scheduled.volume ≤ 2_250_000_000
   pub above : s.direct_up.volume ≤ 2_250_000_000
   pub below : s.direct_down.volume ≤ 2_250_000_000
@@ -25,7 +25,7 @@ pub record Sizes (s : Side) : Type 0 where
 pub sizes_of : (s : Side) → Sound s → Sizes s
 sizes_of s h = record {
   cycles = h.0.0;
-  value = value_within 2_250_000_000 s.formed s.cycles.volume s.cycles.value s.cycles.span h.0;
+  turnover = turnover_within 2_250_000_000 s.formed s.cycles.volume s.cycles.turnover s.cycles.span h.0;
   scheduled = h.1.0;
   above = h.2.0;
   below = h.3.0;

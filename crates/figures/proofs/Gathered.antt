@@ -9,9 +9,10 @@ use Rattle.source.specs.Slots.{Slot}
 use Rattle.source.specs.declared.direction.Direction.{Direction}
 use Rattle.source.specs.declared.slot.Reading.{Reading}
 use Rattle.units.specs.declared.price.Price.{Price}
+use Rattle.figures.specs.Components.{cents_of}
 use Rattle.figures.specs.Counting.{activation, counted_of, demand_in, formed_of}
-use Rattle.figures.specs.Sides.{Slots, formed_to, counting_to, joined, manual_at, side_of, cents_of}
-use Rattle.figures.specs.Spans.{lesser, greater, widened, noted}
+use Rattle.figures.specs.Sides.{Slots, formed_to, totals_to, totals_with, manual_at, side_of}
+use Rattle.figures.specs.Spans.{lesser, greater, widened, span_with}
 use Rattle.figures.specs.declared.side.Activation.{Activation}
 use Rattle.figures.specs.declared.side.Totals.{Totals}
 use Rattle.figures.specs.declared.span.Span.{Span}
@@ -42,7 +43,7 @@ weight_cycle k h = cond-true (ltb k 225) 1 _ (lt-ltb k 225 h)
 between_new : (p : Price) (s : Option Span) → Between (Some (widened p s)) p.cents
 between_new p s = grind (arith, ints)
 
-between_noted : (o : Option Price) (s : Option Span) (z : ℤ) → Between s z → Between (noted o s) z
+between_noted : (o : Option Price) (s : Option Span) (z : ℤ) → Between s z → Between (span_with o s) z
 between_noted o s z b = grind (arith, ints)
 
 pub formed_grows : (d : Direction) (m : Slots) (n j : ℕ) (z : ℤ) → Between (formed_to d m n) z → Between (formed_to d m (j + n)) z
@@ -73,15 +74,15 @@ more_sound most w v b x (Some o) f p h some s = grind (arith, ints, above v b x 
 
 -- one more slot, of the weight w
 slot_sound : (most w : ℕ) (f : Option Span) (t : Totals) (o : Option Price) (a : Option Activation) → Proper w o a
-    → CyclesSound most f t → CyclesSound (most + 10_000_000 * w) (noted o f) (joined a t)
+    → CyclesSound most f t → CyclesSound (most + 10_000_000 * w) (span_with o f) (totals_with a t)
 slot_sound most w f t o None proper s =
     (omega (arith, s.0), s.1, λ e. let k = s.2 e in (between_noted o f _ k.0, between_noted o f _ k.1), s.3, s.4)
-slot_sound most w f t o (Some a) proper s = grind (arith, more_sound most w t.volume a.volume t.value t.span f a.price)
+slot_sound most w f t o (Some a) proper s = grind (arith, more_sound most w t.volume a.volume t.turnover t.span f a.price)
 
-pub cycles_sound : (d : Direction) (m : Slots) (n : ℕ) → n ≤ 225 → CyclesSound (10_000_000 * n) (formed_to d m n) (counting_to d m n)
-unfolding counting_to formed_to
+pub cycles_sound : (d : Direction) (m : Slots) (n : ℕ) → n ≤ 225 → CyclesSound (10_000_000 * n) (formed_to d m n) (totals_to d m n)
+unfolding totals_to formed_to
 cycles_sound d m zero h = grind (arith, ints)
-cycles_sound d m (suc k) h = grind (arith, weight_cycle k, cycles_sound d m k, counted_proper d (weight k) (m k), slot_sound (10_000_000 * k) (weight k) (formed_to d m k) (counting_to d m k))
+cycles_sound d m (suc k) h = grind (arith, weight_cycle k, cycles_sound d m k, counted_proper d (weight k) (m k), slot_sound (10_000_000 * k) (weight k) (formed_to d m k) (totals_to d m k))
 
 -- ---- a manual slot
 between_formed : (d : Direction) (m : Slots) (k : ℕ) → k < 228 → (p : Price) → formed_of d (m k) ≡ Some p → Between (formed_to d m 228) p.cents

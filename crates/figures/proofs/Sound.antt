@@ -1,8 +1,8 @@
 -- What holds of the figures of a direction, whatever slots give them.
 use Rattle.std.proofs.Common.{◌≡◌, ℕ, ◌≤◌, true, ℤ, pos, ◌*ℤ◌, ◌≤ℤ◌, is_some, Option}
 use denote.Struct.Props.{props}
-use Rattle.figures.specs.Spans.{low_of, high_of}
-use Rattle.figures.specs.Sides.{cents_of}
+use Rattle.figures.specs.Spans.{lowest_cents, highest_cents}
+use Rattle.figures.specs.Components.{cents_of}
 use Rattle.figures.specs.declared.side.Manual.{Manual}
 use Rattle.figures.specs.declared.side.Side.{Side}
 use Rattle.figures.specs.declared.side.Totals.{Totals}
@@ -10,17 +10,17 @@ use Rattle.figures.specs.declared.span.Span.{Span}
 
 -- prices are formed, and z lies between the least and the greatest
 abbrev pub Between : Option Span → ℤ → Type 0
-Between f z = (is_some f ≡ true) × (low_of f ≤ℤ z) × (z ≤ℤ high_of f)
+Between f z = (is_some f ≡ true) × (lowest_cents f ≤ℤ z) × (z ≤ℤ highest_cents f)
 
 -- V = v is at most `most`; counting cycles have prices, formed ones, and S / V = x / v lies between them
 abbrev pub CyclesAre : ℕ → Option Span → ℕ → ℤ → Option Span → Type 0
 CyclesAre most f v x o =
     (v ≤ most) × (1 ≤ v → is_some o ≡ true)
-    × (is_some o ≡ true → Between f (low_of o) × Between f (high_of o))
-    × ((low_of o *ℤ pos v) ≤ℤ x) × (x ≤ℤ (high_of o *ℤ pos v))
+    × (is_some o ≡ true → Between f (lowest_cents o) × Between f (highest_cents o))
+    × ((lowest_cents o *ℤ pos v) ≤ℤ x) × (x ≤ℤ (highest_cents o *ℤ pos v))
 
 abbrev pub CyclesSound : ℕ → Option Span → Totals → Type 0
-CyclesSound most f c = CyclesAre most f c.volume c.value c.span
+CyclesSound most f c = CyclesAre most f c.volume c.turnover c.span
 
 -- a manual slot of the greatest demand; where it counts it has a price, and a price is formed
 abbrev pub ManualSound : Option Span → Manual → Type 0

@@ -10,10 +10,11 @@ use Rattle.units.specs.Quantities.{lowest_price, highest_price}
 use Rattle.units.specs.declared.price.Price.{Price}
 use Rattle.units.specs.declared.zone_net.ZoneNet.{ZoneNet}
 use Rattle.figures.specs.Counting.{counted_of, formed_of, reported}
-use Rattle.figures.specs.Sides.{Given, ReportedTo, Slots, net_to, formed_to, counting_to, joined, manual_at}
-use Rattle.figures.specs.Gathering.{side_from}
-use Rattle.figures.specs.Spans.{greater, lesser, low_of, high_of, highest_of, lowest_of, noted, span_between, widened}
-use Rattle.figures.specs.Tallies.{Room, Tallied, blank, counting, counting_in, manual, noting, noting_in, tally_of}
+use Rattle.figures.specs.Sides.{SourceGives, ReportedTo, Slots, net_to, formed_to, totals_to, totals_with, manual_at}
+use Rattle.figures.specs.steps.Gathering.{side_from}
+use Rattle.figures.specs.Spans.{greater, lesser, lowest_cents, highest_cents, span_with, widened}
+use Rattle.figures.specs.steps.Spans.{highest_of, lowest_of, span_between}
+use Rattle.figures.specs.steps.Tallies.{Room, Tallied, blank, counting, counting_in, manual, noting, noting_in, tally_of}
 use Rattle.figures.specs.declared.side.Activation.{Activation}
 use Rattle.figures.specs.declared.gathering.ManualSlots.{ManualSlots}
 use Rattle.figures.specs.declared.side.Side.{Side}
@@ -55,11 +56,11 @@ widened_ordered : (p : Price) (o : Option Span) → Ordered (Some (widened p o))
 widened_ordered p None = omega (arith, ints)
 widened_ordered p (Some s) = grind (arith, ints)
 
-noted_ordered : (p : Option Price) (o : Option Span) → Ordered o → Ordered (noted p o)
+noted_ordered : (p : Option Price) (o : Option Span) → Ordered o → Ordered (span_with p o)
 noted_ordered None o h = h
 noted_ordered (Some p) o h = widened_ordered p o
 
-joined_ordered : (a : Option Activation) (t : Totals) → Ordered t.span → Ordered (joined a t).span
+joined_ordered : (a : Option Activation) (t : Totals) → Ordered t.span → Ordered (totals_with a t).span
 joined_ordered None t h = h
 joined_ordered (Some a) t h = widened_ordered a.price t.span
 
@@ -68,10 +69,10 @@ unfolding formed_to
 formed_ordered d m zero = tt
 formed_ordered d m (suc k) = noted_ordered (formed_of d (m k)) (formed_to d m k) (formed_ordered d m k)
 
-counting_ordered : (d : Direction) (m : Slots) (n : ℕ) → Ordered (counting_to d m n).span
-unfolding counting_to
+counting_ordered : (d : Direction) (m : Slots) (n : ℕ) → Ordered (totals_to d m n).span
+unfolding totals_to
 counting_ordered d m zero = tt
-counting_ordered d m (suc k) = joined_ordered (counted_of d (weight k) (m k)) (counting_to d m k) (counting_ordered d m k)
+counting_ordered d m (suc k) = joined_ordered (counted_of d (weight k) (m k)) (totals_to d m k) (counting_ordered d m k)
 
 span_again : (s : Option Span) → Ordered s → span_between (lowest_of s) (highest_of s) ≡ s
 span_again None h = grind arith
@@ -80,19 +81,19 @@ span_again (Some s) h = grind (arith, ints)
 formed_again : (d : Direction) (m : Slots) (n : ℕ) → span_between (lowest_of (formed_to d m n)) (highest_of (formed_to d m n)) ≡ formed_to d m n
 formed_again d m n = span_again (formed_to d m n) (formed_ordered d m n)
 
-counting_again : (d : Direction) (m : Slots) (n : ℕ) → span_between (lowest_of (counting_to d m n).span) (highest_of (counting_to d m n).span) ≡ (counting_to d m n).span
-counting_again d m n = span_again (counting_to d m n).span (counting_ordered d m n)
+counting_again : (d : Direction) (m : Slots) (n : ℕ) → span_between (lowest_of (totals_to d m n).span) (highest_of (totals_to d m n).span) ≡ (totals_to d m n).span
+counting_again d m n = span_again (totals_to d m n).span (counting_ordered d m n)
 
-tally_noted : (p : Option Price) (c : Totals) (f : Option Span) → noting_in p (tally_of c f) ≡ tally_of c (noted p f)
+tally_noted : (p : Option Price) (c : Totals) (f : Option Span) → noting_in p (tally_of c f) ≡ tally_of c (span_with p f)
 tally_noted None c f = refl
 tally_noted (Some p) c f = grind (arith, lowest_reached p f, highest_reached p f)
 
-tally_joined : (a : Option Activation) (c : Totals) (f : Option Span) → counting_in a (tally_of c f) ≡ tally_of (joined a c) f
+tally_joined : (a : Option Activation) (c : Totals) (f : Option Span) → counting_in a (tally_of c f) ≡ tally_of (totals_with a c) f
 tally_joined None c f = refl
 tally_joined (Some a) c f = grind (arith, lowest_reached a.price c.span, highest_reached a.price c.span)
 
 pub blank_tallied : (m : Slots) → Tallied m 0 0 blank
-unfolding net_to formed_to counting_to
+unfolding net_to formed_to totals_to
 blank_tallied m = grind arith
 
 module _ (m : Slots) (k : ℕ) (w : Weighed) (is : Is m k w) where
@@ -100,12 +101,12 @@ module _ (m : Slots) (k : ℕ) (w : Weighed) (is : Is m k w) where
   unfolding net_to formed_to
   noted_tallied c t h = rw add-one (record {
     nets = grind arith;
-    ups = ap (noting_in w.reading.up) h.ups ∙ tally_noted w.reading.up (counting_to Up m c) (formed_to Up m k) ∙ ap (λ s. tally_of (counting_to Up m c) (noted (formed_of Up s) (formed_to Up m k))) (sym is.0);
-    downs = ap (noting_in w.reading.down) h.downs ∙ tally_noted w.reading.down (counting_to Down m c) (formed_to Down m k) ∙ ap (λ s. tally_of (counting_to Down m c) (noted (formed_of Down s) (formed_to Down m k))) (sym is.0);
+    ups = ap (noting_in w.reading.up) h.ups ∙ tally_noted w.reading.up (totals_to Up m c) (formed_to Up m k) ∙ ap (λ s. tally_of (totals_to Up m c) (span_with (formed_of Up s) (formed_to Up m k))) (sym is.0);
+    downs = ap (noting_in w.reading.down) h.downs ∙ tally_noted w.reading.down (totals_to Down m c) (formed_to Down m k) ∙ ap (λ s. tally_of (totals_to Down m c) (span_with (formed_of Down s) (formed_to Down m k))) (sym is.0);
   })
 
   counted_tallied : (n : ℕ) (t : Tally) → Tallied m n k t → Tallied m n (k + 1) (counting w t)
-  unfolding counting_to
+  unfolding totals_to
   counted_tallied n t h = rw add-one (grind (arith, tally_joined))
 
   pub cycle_tallied : (t : Tally) → Tallied m k k t → Tallied m (k + 1) (k + 1) (counting w (noting w t))
@@ -125,16 +126,16 @@ net_within m (suc k) h =
     let w = weight_bounds k h in
     grind (arith, ints, net_within m k (omega arith), product_within)
 
-low_within : (s : Option Span) → (nat_abs (low_of s) ≤ 9_999_900) × (nat_abs (high_of s) ≤ 9_999_900)
+low_within : (s : Option Span) → (nat_abs (lowest_cents s) ≤ 9_999_900) × (nat_abs (highest_cents s) ≤ 9_999_900)
 low_within s = grind (arith, ints)
 
-pub value_within : (most : ℕ) (f : Option Span) (v : ℕ) (x : ℤ) (o : Option Span) → CyclesAre most f v x o → nat_abs x ≤ 9_999_900 * v
-value_within most f v x o s = grind (arith, ints, low_within o, product_within v 9_999_900 (low_of o), product_within v 9_999_900 (high_of o))
+pub turnover_within : (most : ℕ) (f : Option Span) (v : ℕ) (x : ℤ) (o : Option Span) → CyclesAre most f v x o → nat_abs x ≤ 9_999_900 * v
+turnover_within most f v x o s = grind (arith, ints, low_within o, product_within v 9_999_900 (lowest_cents o), product_within v 9_999_900 (highest_cents o))
 
-pub cycles_room : (d : Direction) (m : Slots) (n : ℕ) (t : DirectionTally) (f : Option Span) → n ≤ 225 → t ≡ tally_of (counting_to d m n) f → Room t
+pub cycles_room : (d : Direction) (m : Slots) (n : ℕ) (t : DirectionTally) (f : Option Span) → n ≤ 225 → t ≡ tally_of (totals_to d m n) f → Room t
 cycles_room d m n t f h e =
     let s = cycles_sound d m n h in
-    grind (arith, value_within _ _ (counting_to d m n).volume (counting_to d m n).value (counting_to d m n).span s)
+    grind (arith, turnover_within _ _ (totals_to d m n).volume (totals_to d m n).turnover (totals_to d m n).span s)
 
 pub net_room : (m : Slots) (n c : ℕ) (t : Tally) → n ≤ 228 → Tallied m n c t → nat_abs t.net ≤ 513_000_000_000
 net_room m n c t h s = grind (arith, net_within m n)
@@ -162,5 +163,5 @@ module _ (M : Meaning) (t a b e : Tally) (s : ManualSlots) (cycles : Tallied M.s
   second_room = net_room M.slots 227 225 b (omega arith) second_tallied
 
   pub quarter_given : (net : ℤ) (zone : ZoneNet) (o : Option Price) (above below : Side) → net ≡ e.net → zone ≡ M.zone → o ≡ M.avoided
-      → above ≡ side_from Up e.up s → below ≡ side_from Down e.down s → Given M net zone o above below
+      → above ≡ side_from Up e.up s → below ≡ side_from Down e.down s → SourceGives M net zone o above below
   quarter_given net zone o above below n z v x y = grind (arith, all_tallied, all_reported, manual_is, formed_again, counting_again)

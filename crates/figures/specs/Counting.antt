@@ -8,35 +8,22 @@ use Rattle.source.specs.declared.slot.Reading.{Reading}
 use Rattle.units.specs.declared.price.Price.{Price}
 use Rattle.figures.specs.declared.side.Activation.{Activation}
 
+-- whether a slot is reported
 abbrev pub reported : Slot → Bool
 reported None = false
 reported (Some r) = true
 
--- the demand with its sign
+-- the demand of a slot in kW, up positive; 0 where it is unreported
 abbrev pub kw_of : Slot → ℤ
 kw_of None = pos 0
 kw_of (Some r) = r.demand.kw
 
--- the size of the demand in a direction: 0 where it is not in that direction
+-- the size of the demand in a direction; 0 where it is not in that direction
 abbrev pub demand_in : Direction → Reading → ℕ
 demand_in Up r = up r.demand.kw
 demand_in Down r = down r.demand.kw
 
--- a demand above 0 counts where its price is formed
-abbrev pub activation : ℕ → ℕ → Option Price → Option Activation
-activation w zero p = None
-activation w (suc n) None = None
-activation w (suc n) (Some p) = Some (record { volume = w * suc n; price = p })
-
--- what a reading of the weight w counts in a direction
-abbrev pub counted : Direction → ℕ → Reading → Option Activation
-counted d w r = activation w (demand_in d r) (formed d r)
-
--- the same of a slot
-abbrev pub counted_of : Direction → ℕ → Slot → Option Activation
-counted_of d w None = None
-counted_of d w (Some r) = counted d w r
-
+-- the price formed in a direction, if the slot is reported and has one
 abbrev pub formed_of : Direction → Slot → Option Price
 formed_of d None = None
 formed_of d (Some r) = formed d r
@@ -45,3 +32,18 @@ formed_of d (Some r) = formed d r
 abbrev pub Counts : Direction → Slot → Type 0
 Counts d None = ⊥
 Counts d (Some r) = (1 ≤ demand_in d r) × (is_some (formed d r) ≡ true)
+
+-- of a weight, a demand in the direction and its price: the volume at that price, where the demand is above 0 and the price formed
+abbrev pub activation : ℕ → ℕ → Option Price → Option Activation
+activation w zero p = None
+activation w (suc n) None = None
+activation w (suc n) (Some p) = Some (record { volume = w * suc n; price = p })
+
+-- what a reading of the weight w counts in a direction: its volume and its price
+abbrev pub counted : Direction → ℕ → Reading → Option Activation
+counted d w r = activation w (demand_in d r) (formed d r)
+
+-- what a slot of the weight w counts in a direction; an unreported one nothing
+abbrev pub counted_of : Direction → ℕ → Slot → Option Activation
+counted_of d w None = None
+counted_of d w (Some r) = counted d w r

@@ -1,6 +1,6 @@
 // The prices that a rulebook may take from the figures.
 ghost use Rattle.std.specs.Prelude.{◌≡◌, ◌+◌, ◌*◌, ◌≤◌, ◌+ℤ◌, Option, unsigned_abs};
-ghost use Rattle.figures.specs.Components.{Component, automatic_mean, component_of, counting_price, cycles_extreme, extreme, farthest, formed_price, manual_counts, over_manual, reaches, side_in, weighted_mean, worth};
+ghost use Rattle.figures.specs.Components.{Component, automatic_mean, component_of, counting_price, cycles_extreme, extreme, extreme_of_span, formed_price, manual_counts, manual_extreme, manual_turnover, no_more_extreme, side_in, weighted_mean};
 ghost use Rattle.figures.specs.declared.side.Manual.{Manual};
 ghost use Rattle.units.specs.Exact.{exact_of};
 ghost use Rattle.units.specs.declared.ratio.Ratio.{Ratio};
@@ -11,8 +11,8 @@ use crate::span::Span;
 use source::Direction;
 use units::Ratio;
 
-fn is_reached(direction: Direction, a: Ratio, b: Ratio) -> bool
-    ensures { result ≡ reaches direction (exact_of a) (exact_of b) }
+fn no_more_extreme(direction: Direction, a: Ratio, b: Ratio) -> bool
+    ensures { result ≡ no_more_extreme direction (exact_of a) (exact_of b) }
 {
     match direction {
         Direction::Up => a.at_most(b),
@@ -27,7 +27,7 @@ pub fn extreme_of(direction: Direction, a: Option<Ratio>, b: Option<Ratio>) -> O
     let (Some(first), Some(second)) = (a, b) else {
         return a.or(b);
     };
-    if is_reached(direction, first, second) {
+    if no_more_extreme(direction, first, second) {
         b
     } else {
         a
@@ -35,8 +35,8 @@ pub fn extreme_of(direction: Direction, a: Option<Ratio>, b: Option<Ratio>) -> O
 }
 
 impl Span {
-    fn farthest(self, direction: Direction) -> Ratio
-        ensures { exact_of result ≡ farthest direction self }
+    fn extreme(self, direction: Direction) -> Ratio
+        ensures { exact_of result ≡ extreme_of_span direction self }
     {
         Ratio::from(direction.pick(self.highest, self.lowest))
     }
@@ -44,9 +44,9 @@ impl Span {
 
 impl Manual {
     // Volume times price.
-    fn worth(self) -> i64
+    fn turnover(self) -> i64
         requires { self.volume ≤ 2_250_000_000 }
-        ensures value { result ≡ worth self }
+        ensures volume_times_price { result ≡ manual_turnover self }
         ensures bounded { unsigned_abs result ≤ 9_999_900 * self.volume }
     {
         let cents = self.price.map_or(0, |price| price.cents());
@@ -71,25 +71,25 @@ impl Manual {
 }
 
 impl Side {
-    // Volume times price of the manual slots.
-    fn manual_worth(self) -> i64
+    // Volume times price, summed over the manual slots.
+    fn manual_turnovers(self) -> i64
         requires scheduled { self.scheduled.volume ≤ 2_250_000_000 }
         requires direct_up { self.direct_up.volume ≤ 2_250_000_000 }
         requires direct_down { self.direct_down.volume ≤ 2_250_000_000 }
-        ensures value { result ≡ worth self.scheduled +ℤ (worth self.direct_up +ℤ worth self.direct_down) }
+        ensures summed { result ≡ manual_turnover self.scheduled +ℤ (manual_turnover self.direct_up +ℤ manual_turnover self.direct_down) }
         ensures bounded { unsigned_abs result ≤ 9_999_900 * (self.scheduled.volume + (self.direct_up.volume + self.direct_down.volume)) }
     {
-        self.scheduled.worth() + self.direct_up.worth() + self.direct_down.worth()
+        self.scheduled.turnover() + self.direct_up.turnover() + self.direct_down.turnover()
     }
 
     // The extreme of the prices that `price` takes of the manual slots.
-    fn over_manual<F: Fn(Manual) -> Option<Ratio>>(
+    fn manual_extreme<F: Fn(Manual) -> Option<Ratio>>(
         self,
         direction: Direction,
         price: F,
     ) -> Option<Ratio>
         requires { F.IsAlwaysCallable price }
-        ensures { (p : Manual → Component) → ((m : Manual) (r : Option Ratio) → F.post price m r → component_of r ≡ p m) → component_of result ≡ over_manual p direction self }
+        ensures { (p : Manual → Component) → ((m : Manual) (r : Option Ratio) → F.post price m r → component_of r ≡ p m) → component_of result ≡ manual_extreme p direction self }
     {
         let direct = extreme_of(direction, price(self.direct_up), price(self.direct_down));
         extreme_of(direction, price(self.scheduled), direct)
@@ -108,7 +108,7 @@ impl Figures {
         ensures { component_of result ≡ weighted_mean (side_in direction self.now) }
     {
         let side = self.side(direction);
-        let manual = side.manual_worth();
+        let manual = side.manual_turnovers();
         let volume = side.cycles.volume
             + side.scheduled.volume
             + side.direct_up.volume
@@ -117,7 +117,7 @@ impl Figures {
             return None;
         }
         Some(Ratio {
-            n: side.cycles.value + manual,
+            n: side.cycles.turnover + manual,
             d: volume,
         })
     }
@@ -131,7 +131,7 @@ impl Figures {
             return None;
         }
         Some(Ratio {
-            n: cycles.value,
+            n: cycles.turnover,
             d: cycles.volume,
         })
     }
@@ -141,23 +141,23 @@ impl Figures {
         ensures { component_of result ≡ cycles_extreme direction (side_in direction self.now) }
     {
         let cycles = self.side(direction).cycles;
-        cycles.span.map(|span| span.farthest(direction))
+        cycles.span.map(|span| span.extreme(direction))
     }
 
     /// The extreme of the counting manual prices.
     pub fn counting_manual(&self, direction: Direction) -> Option<Ratio>
-        ensures { component_of result ≡ over_manual counting_price direction (side_in direction self.now) }
+        ensures { component_of result ≡ manual_extreme counting_price direction (side_in direction self.now) }
     {
         let side = self.side(direction);
-        side.over_manual(direction, Manual::counting_price)
+        side.manual_extreme(direction, Manual::counting_price)
     }
 
     /// The extreme of the formed manual prices, whatever their demand.
     pub fn formed_manual(&self, direction: Direction) -> Option<Ratio>
-        ensures { component_of result ≡ over_manual formed_price direction (side_in direction self.now) }
+        ensures { component_of result ≡ manual_extreme formed_price direction (side_in direction self.now) }
     {
         let side = self.side(direction);
-        side.over_manual(direction, Manual::formed_price)
+        side.manual_extreme(direction, Manual::formed_price)
     }
 
     /// Whether a manual slot counts.

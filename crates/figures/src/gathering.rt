@@ -2,7 +2,8 @@
 ghost use Rattle.std.specs.Prelude.{◌≡◌, ◌<◌};
 ghost use Rattle.source.specs.Products.{manual_slot};
 ghost use Rattle.source.specs.declared.slot.TheConstants.{SLOTS};
-ghost use Rattle.figures.specs.Gathering.{CountsShown, Cycled, Figured, Weighs, side_from};
+ghost use Rattle.figures.specs.Gathering.{AreFiguresOrUnreported, VolumeShowsCounting};
+ghost use Rattle.figures.specs.steps.Gathering.{AreCyclesOrUnreported, IsSlotOrUnreported, side_from};
 
 use crate::fault::UnreportedSlot;
 use crate::quarter_figures::Figures;
@@ -14,7 +15,7 @@ use source::{CYCLES, Direction, ManualProduct, PriceSource, weight_of};
 
 fn weighed<S: PriceSource>(source: &S, slot: usize) -> Result<Weighed, UnreportedSlot>
     requires { slot < SLOTS }
-    ensures { Weighs (S.PriceSource.means source.now).slots slot result }
+    ensures { IsSlotOrUnreported (S.PriceSource.means source.now).slots slot result }
 {
     let Ok(Some(reading)) = source.slot(slot) else {
         return Err(UnreportedSlot { slot });
@@ -26,13 +27,13 @@ fn weighed<S: PriceSource>(source: &S, slot: usize) -> Result<Weighed, Unreporte
 }
 
 fn manual<S: PriceSource>(source: &S, product: ManualProduct) -> Result<Weighed, UnreportedSlot>
-    ensures { Weighs (S.PriceSource.means source.now).slots (manual_slot product) result }
+    ensures { IsSlotOrUnreported (S.PriceSource.means source.now).slots (manual_slot product) result }
 {
     weighed(source, product.slot())
 }
 
 fn cycles<S: PriceSource>(source: &S) -> Result<Tally, UnreportedSlot>
-    ensures { Cycled (S.PriceSource.means source.now).slots result }
+    ensures { AreCyclesOrUnreported (S.PriceSource.means source.now).slots result }
 {
     let mut tally = Tally::blank();
     for slot in 0..CYCLES {
@@ -66,8 +67,8 @@ impl ManualSlots {
 
 /// The figures of a quarter, each slot asked for once; refused where a slot is not reported.
 pub fn figures_of<S: PriceSource>(source: &S) -> Result<Figures, UnreportedSlot>
-    ensures value { Figured (S.PriceSource.means source.now) result }
-    ensures counting { CountsShown (S.PriceSource.means source.now).slots result }
+    ensures figures_of_the_source { AreFiguresOrUnreported (S.PriceSource.means source.now) result }
+    ensures volume_where_counting { VolumeShowsCounting (S.PriceSource.means source.now).slots result }
 {
     let tally = cycles(source)?;
     let scheduled = manual(source, ManualProduct::Scheduled)?;

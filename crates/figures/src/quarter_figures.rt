@@ -1,6 +1,6 @@
 // The figures of a quarter, as a rulebook is given them.
 ghost use Rattle.source.specs.Meanings.{Meaning};
-ghost use Rattle.figures.specs.Sides.{Given};
+ghost use Rattle.figures.specs.Sides.{SourceGives};
 
 use crate::side::Side;
 use units::{Price, ZoneNet};
@@ -14,5 +14,5 @@ pub struct Figures {
     pub avoided: Option<Price>,
     pub up: Side,
     pub down: Side,
-    ghost given: { ∥ ((m : Meaning) × Given m local_net zone_net avoided up down) ∥₁ },
+    ghost given: { ∥ ((m : Meaning) × SourceGives m local_net zone_net avoided up down) ∥₁ },
 }

@@ -13,7 +13,7 @@ pub struct Activation {
 #[derive(Clone, Copy)]
 pub struct Totals {
     pub volume: u64,
-    pub value: i64,
+    pub turnover: i64,
     pub span: Option<Span>,
 }
 

@@ -1,6 +1,7 @@
 // The lowest and the highest of some prices.
 ghost use Rattle.std.specs.Prelude.{◌≡◌};
-ghost use Rattle.figures.specs.Spans.{greater, lesser, span_between};
+ghost use Rattle.figures.specs.Spans.{greater, lesser};
+ghost use Rattle.figures.specs.steps.Spans.{span_between};
 
 use units::Price;
 

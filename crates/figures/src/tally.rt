@@ -1,8 +1,8 @@
 // The sums over the slots that were read so far.
 ghost use Rattle.std.specs.Prelude.{◌≡◌, ◌*◌, ◌≤◌, pos, ◌*ℤ◌, unsigned_abs};
 ghost use Rattle.figures.specs.Counting.{counted, demand_in};
-ghost use Rattle.figures.specs.Sides.{none, volume_of};
-ghost use Rattle.figures.specs.Tallies.{Room, blank, counting, counting_in, cycles_of, manual, noting, noting_in, tally_of, with_in};
+ghost use Rattle.figures.specs.Sides.{no_totals, volume_of};
+ghost use Rattle.figures.specs.steps.Tallies.{Room, blank, counting, counting_in, cycles_of, manual, noting, noting_in, tally_of, with_in};
 
 use crate::side::{Activation, Manual, Totals};
 use crate::span::{greater, lesser, span_between};
@@ -15,7 +15,7 @@ use units::Price;
 #[derive(Clone, Copy)]
 pub(crate) struct DirectionTally {
     pub(crate) volume: u64,
-    pub(crate) value: i64,
+    pub(crate) turnover: i64,
     pub(crate) lowest_counting: Price,
     pub(crate) highest_counting: Price,
     pub(crate) lowest_formed: Price,
@@ -44,14 +44,14 @@ impl Weighed {
     }
 
     fn energy(self) -> i64
-        ensures value { result ≡ pos self.weight *ℤ self.reading.demand.kw }
+        ensures weight_times_demand { result ≡ pos self.weight *ℤ self.reading.demand.kw }
         ensures small { unsigned_abs result ≤ 2_250_000_000 }
     {
         self.weight as i64 * self.reading.demand.kw()
     }
 
     fn activation(self, direction: Direction) -> Option<Activation>
-        ensures value { result ≡ counted direction self.weight self.reading }
+        ensures what_counts { result ≡ counted direction self.weight self.reading }
         ensures small { volume_of result ≤ 2_250_000_000 }
     {
         let size = self.demand_in(direction);
@@ -74,11 +74,11 @@ impl Weighed {
 
 impl DirectionTally {
     fn blank() -> DirectionTally
-        ensures { result ≡ tally_of none None }
+        ensures { result ≡ tally_of no_totals None }
     {
         DirectionTally {
             volume: 0,
-            value: 0,
+            turnover: 0,
             lowest_counting: Price::highest(),
             highest_counting: Price::lowest(),
             lowest_formed: Price::highest(),
@@ -92,7 +92,7 @@ impl DirectionTally {
     {
         Totals {
             volume: self.volume,
-            value: self.value,
+            turnover: self.turnover,
             span: span_between(self.lowest_counting, self.highest_counting),
         }
     }
@@ -106,7 +106,7 @@ impl DirectionTally {
         };
         DirectionTally {
             volume: self.volume,
-            value: self.value,
+            turnover: self.turnover,
             lowest_counting: self.lowest_counting,
             highest_counting: self.highest_counting,
             lowest_formed: lesser(price, self.lowest_formed),
@@ -125,7 +125,7 @@ impl DirectionTally {
         };
         DirectionTally {
             volume: self.volume + added.volume,
-            value: self.value + added.volume as i64 * added.price.cents(),
+            turnover: self.turnover + added.volume as i64 * added.price.cents(),
             lowest_counting: lesser(added.price, self.lowest_counting),
             highest_counting: greater(added.price, self.highest_counting),
             lowest_formed: self.lowest_formed,

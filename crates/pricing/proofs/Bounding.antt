@@ -1,8 +1,8 @@
 -- The bounds of a quote follow from the laws and from the rounding.
 use Rattle.std.proofs.Common.{◌≡◌, ℕ, ◌+◌, ◌*◌, ◌≤◌, ℤ, pos, ◌+ℤ◌, ◌-ℤ◌, ◌*ℤ◌, ◌≤ℤ◌, ap, arith}
 use borrow.Author.Differences.{ints, up, down}
-use Rattle.figures.specs.Components.{side_in, value, volume}
-use Rattle.figures.specs.Spans.{low_of, high_of}
+use Rattle.figures.specs.Components.{side_in, turnover, volume}
+use Rattle.figures.specs.Spans.{lowest_cents, highest_cents}
 use Rattle.figures.specs.declared.quarter_figures.Figures.{Figures}
 use Rattle.figures.specs.declared.side.Side.{Side}
 use Rattle.source.specs.declared.direction.Direction.{Direction}
@@ -11,7 +11,7 @@ use Rattle.units.specs.Exact.{Exact}
 use Rattle.units.specs.Rounding.{Nearest}
 use Rattle.units.specs.declared.price.Price.{Price}
 use Rattle.pricing.specs.Bounds.{IsBoundedIn, HalfCentFromMean}
-use Rattle.pricing.specs.FourLaws.{Beyond, KeepsLaws}
+use Rattle.pricing.specs.FourLaws.{IsNoMoreExtreme, KeepsLaws}
 use Rattle.pricing.specs.Outcomes.{Outcome, directed}
 use Rattle.pricing.specs.Quotes.{quoted_direction}
 use Rattle.pricing.specs.declared.ruling.Net.{Net}
@@ -30,11 +30,11 @@ near_below n p d h =
     let e : up z + 2 * down p + 1 ≡ down z + 2 * up p = omega (arith, ints) in
     omega (arith, ints, h.close, ap (λ k. k * d) e)
 
-half_cent_lem : (d : Direction) (s : Side) (q : Exact) (p : ℤ) → 1 ≤ q.d → Nearest q.n q.d p → Beyond d (value s *ℤ pos q.d) (q.n *ℤ pos (volume s)) → HalfCentFromMean d s p
-half_cent_lem Up s q p some near b = cross (value s) q.n ((p *ℤ pos 2) +ℤ pos 1) (volume s) q.d 2 some b (near_above q.n p q.d near)
-half_cent_lem Down s q p some near b = cross ((p *ℤ pos 2) -ℤ pos 1) q.n (value s) 2 q.d (volume s) some (near_below q.n p q.d near) b
+half_cent_lem : (d : Direction) (s : Side) (q : Exact) (p : ℤ) → 1 ≤ q.d → Nearest q.n q.d p → IsNoMoreExtreme d (turnover s *ℤ pos q.d) (q.n *ℤ pos (volume s)) → HalfCentFromMean d s p
+half_cent_lem Up s q p some near b = cross (turnover s) q.n ((p *ℤ pos 2) +ℤ pos 1) (volume s) q.d 2 some b (near_above q.n p q.d near)
+half_cent_lem Down s q p some near b = cross ((p *ℤ pos 2) -ℤ pos 1) q.n (turnover s) 2 q.d (volume s) some (near_below q.n p q.d near) b
 
 pub quote_bounded : (net : Net) (f : Figures) (o : Outcome) (d : Direction) (q : Exact) (p : Price) → KeepsLaws net f o → directed d q ≡ o → Nearest q.n q.d p.cents
     → ((low high : ℤ) → (low *ℤ pos q.d) ≤ℤ q.n → q.n ≤ℤ (high *ℤ pos q.d) → (low ≤ℤ p.cents) × (p.cents ≤ℤ high)) → IsBoundedIn (quoted_direction d) f p
 quote_bounded net f o d q p laws e near keeps =
-    grind (arith, laws.formed, laws.mean, half_cent_lem d (side_in d f) q p.cents, keeps (low_of (side_in d f).formed) (high_of (side_in d f).formed))
+    grind (arith, laws.formed, laws.mean, half_cent_lem d (side_in d f) q p.cents, keeps (lowest_cents (side_in d f).formed) (highest_cents (side_in d f).formed))

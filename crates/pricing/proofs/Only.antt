@@ -2,8 +2,8 @@
 use Rattle.std.proofs.Common.{◌≡◌, ℕ, ◌<◌, Some, None, Option, Ok, Err, Result, arith}
 use mathlib.Core.HLevel.{is_prop→PathP}
 use mathlib.Core.Logic.{∥∥₁_prop}
-use Rattle.figures.specs.Gathering.{FirstUnreported, Gives}
-use Rattle.figures.specs.Sides.{Given, ReportedTo, Slots}
+use Rattle.figures.specs.Gathering.{FirstUnreported, AreFiguresOf}
+use Rattle.figures.specs.Sides.{SourceGives, ReportedTo, Slots}
 use Rattle.figures.specs.declared.quarter_figures.Figures.{Figures}
 use Rattle.source.specs.Meanings.{Meaning}
 use Rattle.units.proofs.Made.{price_same}
@@ -21,10 +21,10 @@ figures_same f g n z a u d = λ i. record {
   avoided = a i;
   up = u i;
   down = d i;
-  given = is_prop→PathP (λ j. ∥ ((m : Meaning) × Given m (n j) (z j) (a j) (u j) (d j)) ∥₁) (λ j. ∥∥₁_prop) f.given g.given i;
+  given = is_prop→PathP (λ j. ∥ ((m : Meaning) × SourceGives m (n j) (z j) (a j) (u j) (d j)) ∥₁) (λ j. ∥∥₁_prop) f.given g.given i;
 }
 
-only_figures : (m : Meaning) (f g : Figures) → Gives m f → Gives m g → f ≡ g
+only_figures : (m : Meaning) (f g : Figures) → AreFiguresOf m f → AreFiguresOf m g → f ≡ g
 only_figures m f g p q = grind (arith, figures_same f g)
 
 -- a slot that is not reported is not among the reported

@@ -1,8 +1,8 @@
 -- Between which prices a quote lies.
 use Rattle.std.specs.Prelude.{◌≡◌, true, ℤ, pos, ◌+ℤ◌, ◌-ℤ◌, ◌*ℤ◌, ◌≤ℤ◌, is_some, Some, Ok, Err}
-use Rattle.figures.specs.Components.{value, volume}
-use Rattle.figures.specs.Gathering.{Gives}
-use Rattle.figures.specs.Spans.{low_of, high_of}
+use Rattle.figures.specs.Components.{turnover, volume}
+use Rattle.figures.specs.Gathering.{AreFiguresOf}
+use Rattle.figures.specs.Spans.{lowest_cents, highest_cents}
 use Rattle.figures.specs.declared.quarter_figures.Figures.{Figures}
 use Rattle.figures.specs.declared.side.Side.{Side}
 use Rattle.source.specs.Meanings.{Meaning}
@@ -14,25 +14,25 @@ use Rattle.pricing.specs.declared.quote.Quote.{Quote}
 use Rattle.pricing.specs.declared.quote.QuoteDirection.{QuoteDirection}
 use Rattle.pricing.specs.declared.quote.QuoteDirection.TheVariants.{Up, Down, Avoided}
 
--- an up price p is at most half a cent below S / V, a down price at most half a cent above
+-- an up price of p cents is at most half a cent below S / V, a down price at most half a cent above
 abbrev pub HalfCentFromMean : Direction → Side → ℤ → Type 0
-HalfCentFromMean dir.Up s p = (value s *ℤ pos 2) ≤ℤ (((p *ℤ pos 2) +ℤ pos 1) *ℤ pos (volume s))
-HalfCentFromMean dir.Down s p = (((p *ℤ pos 2) -ℤ pos 1) *ℤ pos (volume s)) ≤ℤ (value s *ℤ pos 2)
+HalfCentFromMean dir.Up s p = (turnover s *ℤ pos 2) ≤ℤ (((p *ℤ pos 2) +ℤ pos 1) *ℤ pos (volume s))
+HalfCentFromMean dir.Down s p = (((p *ℤ pos 2) -ℤ pos 1) *ℤ pos (volume s)) ≤ℤ (turnover s *ℤ pos 2)
 
--- a price is formed in the direction, p lies between the lowest and the highest such, and is at most half a cent less extreme than the mean
+-- a price is formed in the direction, p cents lie between the lowest and the highest such, and are at most half a cent less extreme than the weighted mean
 pub record IsBounded (d : Direction) (s : Side) (p : ℤ) : Type 0 where
   pub formed : is_some s.formed ≡ true
-  pub low : low_of s.formed ≤ℤ p
-  pub high : p ≤ℤ high_of s.formed
+  pub low : lowest_cents s.formed ≤ℤ p
+  pub high : p ≤ℤ highest_cents s.formed
   pub mean : HalfCentFromMean d s p
 
--- by the direction of a quote; under A the price is the avoided value
+-- a quote's price lies in the bounds of its direction; under A it is the avoided value
 abbrev pub IsBoundedIn : QuoteDirection → Figures → Price → Type 0
 IsBoundedIn Up f p = IsBounded dir.Up f.up p.cents
 IsBoundedIn Down f p = IsBounded dir.Down f.down p.cents
 IsBoundedIn Avoided f p = f.avoided ≡ Some p
 
--- a quote of figures lies in its bounds
+-- an answer for figures: where it is a quote, that lies in its bounds
 abbrev pub IsBoundedQuote : Figures → Answer → Type 0
 IsBoundedQuote f (Ok q) = IsBoundedIn q.direction f q.price
 IsBoundedQuote f (Err e) = Unit {0}
@@ -40,10 +40,10 @@ IsBoundedQuote f (Err e) = Unit {0}
 -- a quote lies in the bounds of the figures that a source gives
 pub record IsBoundedByFigures (m : Meaning) (q : Quote) : Type 0 where
   pub figures : Figures
-  pub gives : Gives m figures
+  pub gives : AreFiguresOf m figures
   pub bounded : IsBoundedIn q.direction figures q.price
 
--- an answer of a source: a quote lies in its bounds
+-- an answer for a source: where it is a quote, that lies in its bounds
 abbrev pub IsBoundedQuoteOfSource : Meaning → Answer → Type 0
 IsBoundedQuoteOfSource m (Ok q) = IsBoundedByFigures m q
 IsBoundedQuoteOfSource m (Err e) = Unit {0}

@@ -4,12 +4,12 @@ use Rattle.figures.specs.declared.fault.UnreportedSlot.{UnreportedSlot}
 use Rattle.figures.specs.declared.quarter_figures.Figures.{Figures}
 use Rattle.source.specs.Meanings.{Meaning}
 use Rattle.pricing.specs.Outcomes.{Outcome}
-use Rattle.pricing.specs.Quotes.{Answer, IsQuote, IsQuoteOfSource}
+use Rattle.pricing.specs.Quotes.{Answer, IsQuoteOfSource}
 use Rattle.pricing.specs.Rulings as rulings
 use Rattle.pricing.specs.declared.fault.QuoteFault.TheVariants.{Unreported}
 use Rattle.pricing.specs.declared.codes.FiveQuotes.{FiveQuotes}
 
--- each answer is, for the code and the ruling of its rulebook, as `answers` has it
+-- the answer under each code is, for that code and the ruling of its rulebook, as `answers` has it
 pub record AreByCode (answers : ℕ → (Figures → Outcome) → Answer → Type 0) (q : FiveQuotes) : Type 0 where
   pub weighted_average : answers 1 rulings.weighted_average q.weighted_average
   pub combined_automatic : answers 2 rulings.combined_automatic q.combined_automatic
@@ -17,11 +17,7 @@ pub record AreByCode (answers : ℕ → (Figures → Outcome) → Answer → Typ
   pub max_min : answers 4 rulings.max_min q.max_min
   pub finnish : answers 5 rulings.finnish q.finnish
 
--- of figures: under each code the quote of what the rulebook rules for them
-abbrev pub AreQuotesOfFigures : Figures → FiveQuotes → Type 0
-AreQuotesOfFigures f q = AreByCode (λ code ruling a. IsQuote code (ruling f) f.avoided a) q
-
--- each code refused at an unreported slot
+-- under each code the refusal at an unreported slot
 abbrev pub all_unreported : UnreportedSlot → FiveQuotes
 all_unreported s = record {
   weighted_average = Err (Unreported s);
@@ -31,11 +27,11 @@ all_unreported s = record {
   finnish = Err (Unreported s);
 }
 
--- of a source: under each code its quote or its refusal
+-- under each code the quote of a source or its refusal
 abbrev pub AreQuotesOfSource : Meaning → FiveQuotes → Type 0
 AreQuotesOfSource m q = AreByCode (IsQuoteOfSource m) q
 
--- a fault that comes before any quote, where there is one; else the quotes of a source
+-- the fault that comes before any quote, where there is one; else under each code the quote of the source or its refusal
 abbrev pub AreQuotesUnlessFault : {F : Type 0} → Result (Unit {0}) F → Meaning → Result FiveQuotes F → Type 0
 AreQuotesUnlessFault (Err f) m r = r ≡ Err f
 AreQuotesUnlessFault (Ok _) m (Ok q) = AreQuotesOfSource m q

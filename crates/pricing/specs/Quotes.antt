@@ -1,6 +1,6 @@
 -- The quote of an outcome, and of what a source means.
 use Rattle.std.specs.Prelude.{◌≡◌, ℕ, ℤ, Some, None, Ok, Err, Option, Result}
-use Rattle.figures.specs.Gathering.{FirstUnreported, Gives}
+use Rattle.figures.specs.Gathering.{FirstUnreported, AreFiguresOf}
 use Rattle.figures.specs.declared.quarter_figures.Figures.{Figures}
 use Rattle.source.specs.Meanings.{Meaning}
 use Rattle.source.specs.declared.direction.Direction.{Direction}
@@ -25,29 +25,29 @@ letter Up = 0x55
 letter Down = 0x44
 letter Avoided = 0x41
 
--- a quote or its refusal
+-- what is answered: a quote, or why there is none
 abbrev pub Answer : Type 0
 Answer = Result Quote QuoteFault
 
--- a quote in a direction, with a price of so many cents
-pub record IsRounded (code : ℕ) (d : QuoteDirection) (cents : ℤ) (r : Answer) : Type 0 where
+-- the answer is a quote under the code, in a direction and at a price of so many cents
+pub record IsQuoteAt (code : ℕ) (d : QuoteDirection) (cents : ℤ) (r : Answer) : Type 0 where
   pub price : Price
   pub is : r ≡ Ok (record { code = code; direction = d; price = price })
   pub at : price.cents ≡ cents
 
--- of an outcome: the direction and the exact price rounded to the nearest cent, or A and the avoided value; refused where that is absent
+-- the direction and the exact price rounded to the nearest cent, or A and the avoided value; refused where that is absent
 abbrev pub IsQuote : ℕ → Outcome → Option Price → Answer → Type 0
-IsQuote code (directed d q) a r = IsRounded code (quoted_direction d) (rounded q.n q.d) r
+IsQuote code (directed d q) a r = IsQuoteAt code (quoted_direction d) (rounded q.n q.d) r
 IsQuote code avoided (Some p) r = r ≡ Ok (record { code = code; direction = Avoided; price = p })
 IsQuote code avoided None r = r ≡ Err NoAvoidedValue
 
--- of a source without an unreported slot: the quote of what the rulebook rules for the figures that the source gives
+-- the quote of what the rulebook rules for the figures that a source gives
 pub record IsQuoteOfFigures (m : Meaning) (code : ℕ) (ruling : Figures → Outcome) (r : Answer) : Type 0 where
   pub figures : Figures
-  pub gives : Gives m figures
+  pub gives : AreFiguresOf m figures
   pub quotes : IsQuote code (ruling figures) m.avoided r
 
--- of a source: refused at the first unreported slot exactly where there is one, else the quote of the figures
+-- refused at the first unreported slot exactly where there is one, else the quote of the figures that the source gives
 abbrev pub IsQuoteOfSource : Meaning → ℕ → (Figures → Outcome) → Answer → Type 0
 IsQuoteOfSource m code ruling (Err (Unreported e)) = FirstUnreported m.slots e.slot
 IsQuoteOfSource m code ruling (Err NoAvoidedValue) = IsQuoteOfFigures m code ruling (Err NoAvoidedValue)

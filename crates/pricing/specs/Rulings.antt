@@ -1,6 +1,6 @@
 -- The exact price of each rulebook, from the components in the net's direction.
 use Rattle.std.specs.Prelude.{if◌then◌else◌}
-use Rattle.figures.specs.Components.{Component, automatic_mean, counting_price, cycles_extreme, extreme, formed_price, manual_counts, over_manual, side_in, weighted_mean}
+use Rattle.figures.specs.Components.{Component, automatic_mean, counting_price, cycles_extreme, extreme, formed_price, manual_counts, manual_extreme, side_in, weighted_mean}
 use Rattle.figures.specs.declared.quarter_figures.Figures.{Figures}
 use Rattle.figures.specs.declared.side.Side.{Side}
 use Rattle.source.specs.declared.direction.Direction.{Direction}
@@ -18,19 +18,19 @@ mean_price d s = weighted_mean s
 
 -- 2: the extreme of the automatic mean and the counting manual prices
 abbrev pub automatic_or_manual : PriceRule
-automatic_or_manual d s = extreme d (automatic_mean s) (over_manual counting_price d s)
+automatic_or_manual d s = extreme d (automatic_mean s) (manual_extreme counting_price d s)
 
 -- 3: the extreme of the weighted mean and the counting manual prices
 abbrev pub mean_or_manual : PriceRule
-mean_or_manual d s = extreme d (weighted_mean s) (over_manual counting_price d s)
+mean_or_manual d s = extreme d (weighted_mean s) (manual_extreme counting_price d s)
 
 -- 4: the extreme of all counting prices
 abbrev pub extreme_counting : PriceRule
-extreme_counting d s = extreme d (cycles_extreme d s) (over_manual counting_price d s)
+extreme_counting d s = extreme d (cycles_extreme d s) (manual_extreme counting_price d s)
 
 -- 5: the weighted mean if a manual slot counts, else the extreme of the automatic mean and the formed manual prices
 abbrev pub finnish_price : PriceRule
-finnish_price d s = if manual_counts s then weighted_mean s else extreme d (automatic_mean s) (over_manual formed_price d s)
+finnish_price d s = if manual_counts s then weighted_mean s else extreme d (automatic_mean s) (manual_extreme formed_price d s)
 
 -- the price in the direction of the deciding net
 abbrev pub by_net : Net → PriceRule → Figures → Outcome

@@ -1,6 +1,7 @@
 // The quotes of a quarter under codes 1 to 5.
 ghost use Rattle.std.specs.Prelude.{◌≡◌};
-ghost use Rattle.pricing.specs.FiveQuotes.{AreQuotesOfFigures, AreQuotesOfSource, all_unreported};
+ghost use Rattle.pricing.specs.FiveQuotes.{AreQuotesOfSource, all_unreported};
+ghost use Rattle.pricing.specs.steps.FiveQuotes.{AreQuotesOfFigures};
 ghost use Rattle.pricing.specs.declared.codes.FiveQuotes.{FiveQuotes};
 
 use crate::fault::QuoteFault;

@@ -4,6 +4,7 @@ ghost use Rattle.pricing.specs.Refusals.{quote_number, quote_place};
 ghost use Rattle.pricing.specs.declared.fault.QuoteFault.TheVariants.{Unreported};
 
 use figures::UnreportedSlot;
+use source::SLOTS;
 use units::Refusal;
 
 #[derive(Clone, Copy, Debug)]
@@ -29,7 +30,7 @@ impl Refusal for QuoteFault {
     fn place(self) -> usize {
         match self {
             QuoteFault::Unreported(fault) => fault.place(),
-            QuoteFault::NoAvoidedValue => 228,
+            QuoteFault::NoAvoidedValue => SLOTS,
         }
     }
 }

@@ -1,6 +1,6 @@
 // The quote of a quarter under a rulebook.
 ghost use Rattle.std.specs.Prelude.{◌≡◌, [], ◌∷◌, Some};
-ghost use Rattle.figures.specs.Gathering.{Gives};
+ghost use Rattle.figures.specs.Gathering.{AreFiguresOf};
 ghost use Rattle.figures.specs.declared.quarter_figures.Figures.{Figures};
 ghost use Rattle.pricing.specs.Bounds.{IsBoundedQuote, IsBoundedQuoteOfSource};
 ghost use Rattle.pricing.specs.FourLaws.{KeepsLaws};
@@ -82,7 +82,7 @@ pub fn quote_source<S: PriceSource, R: Rulebook>(
 ) -> Result<Quote, QuoteFault>
     ensures quote_of_the_source { IsQuoteOfSource (S.PriceSource.means source.now) R.Rulebook.CODE (R.Rulebook.ruling rulebook.now) result }
     ensures only_answer { (a : Answer) → IsQuoteOfSource (S.PriceSource.means source.now) R.Rulebook.CODE (R.Rulebook.ruling rulebook.now) a → a ≡ result }
-    ensures laws_kept { (f : Figures) → Gives (S.PriceSource.means source.now) f → KeepsLaws R.Rulebook.NET f (R.Rulebook.ruling rulebook.now f) }
+    ensures laws_kept { (f : Figures) → AreFiguresOf (S.PriceSource.means source.now) f → KeepsLaws R.Rulebook.NET f (R.Rulebook.ruling rulebook.now f) }
     ensures bounds_kept { IsBoundedQuoteOfSource (S.PriceSource.means source.now) result }
 {
     let figures = figures_of(source)?;

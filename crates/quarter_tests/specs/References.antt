@@ -1,7 +1,7 @@
 -- The weighted mean, and beyond it a reference price.
 use Rattle.std.specs.Prelude.{Some, None, Option}
 use Rattle.std.specs.Option.{option_map}
-use Rattle.figures.specs.Components.{Component, extreme, farthest, weighted_mean}
+use Rattle.figures.specs.Components.{Component, extreme, extreme_of_span, weighted_mean}
 use Rattle.figures.specs.declared.span.Span.{Span}
 use Rattle.pricing.specs.Rulings.{PriceRule}
 use Rattle.source.specs.Directions.{picked}
@@ -16,7 +16,7 @@ opposite d = picked d Down Up
 
 -- the reference price, no further than the prices formed: for up the lesser of it and the highest, for down the greater of it and the lowest
 abbrev pub reference_within : Price → Direction → Option Span → Component
-reference_within p d formed = extreme (opposite d) (Some (exact_of_price p)) (option_map (farthest d) formed)
+reference_within p d formed = extreme (opposite d) (Some (exact_of_price p)) (option_map (extreme_of_span d) formed)
 
 -- where the mean exists, the extreme of it and a reference
 abbrev pub mean_or_reference : Direction → Component → Component → Component

@@ -1,7 +1,7 @@
 -- The quote of a lawful rulebook is within half a cent of its exact price, and within its bounds.
 use Rattle.std.proofs.Common.{◌≡◌, ℕ, ℤ, ◌≤ℤ◌, Some, None, Ok, Option, sym, refl, ap, ◌∙◌, subst, arith}
 use borrow.Author.Differences.{ints}
-use Rattle.figures.specs.Gathering.{Gives}
+use Rattle.figures.specs.Gathering.{AreFiguresOf}
 use Rattle.figures.specs.declared.quarter_figures.Figures.{Figures}
 use Rattle.pricing.proofs.Bounding.{quote_bounded}
 use Rattle.pricing.specs.Bounds.{IsBounded, IsBoundedIn}
@@ -61,9 +61,9 @@ bounded_by code net f avoided (Some v) q laws h n = absurd (n cc)
 bounded_by code net f avoided None q laws h n = never q _ h
 
 -- the same, by what the source means
-by_meaning : (m : Meaning) (f : Figures) (d : QuoteDirection) (p : Price) → Gives m f → ((d ≡ Avoided → ⊥) → IsBoundedIn d f p) → WithinBounds d m p.cents
-by_meaning m f Up p g b = subst (λ s. IsBounded dir.Up s p.cents) g.ups (b (λ e. let z : ◌≡◌ {A = ℕ} 0 1 = cc in omega arith))
-by_meaning m f Down p g b = subst (λ s. IsBounded dir.Down s p.cents) g.downs (b (λ e. let z : ◌≡◌ {A = ℕ} 0 1 = cc in omega arith))
+by_meaning : (m : Meaning) (f : Figures) (d : QuoteDirection) (p : Price) → AreFiguresOf m f → ((d ≡ Avoided → ⊥) → IsBoundedIn d f p) → WithinBounds d m p.cents
+by_meaning m f Up p g b = subst (λ s. IsBounded dir.Up s p.cents) g.up_is (b (λ e. let z : ◌≡◌ {A = ℕ} 0 1 = cc in omega arith))
+by_meaning m f Down p g b = subst (λ s. IsBounded dir.Down s p.cents) g.down_is (b (λ e. let z : ◌≡◌ {A = ℕ} 0 1 = cc in omega arith))
 by_meaning m f Avoided p g b = tt
 
 abbrev pub filed : Meaning → Rules → Quarter → Filing

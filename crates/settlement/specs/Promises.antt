@@ -1,7 +1,7 @@
 -- What is promised of every run: of any number of calls, in any order, refused ones included, each pricing with a source
 -- and a rulebook of its own.
 use Rattle.std.specs.Prelude.{◌≡◌, ℕ, ◌*◌, ◌≤◌, List, [], ◌∷◌, ℤ, pos, ◌-ℤ◌, ◌*ℤ◌, Some, None, Ok, Err, Option, is_some, unsigned_abs}
-use Rattle.figures.specs.Gathering.{Gives}
+use Rattle.figures.specs.Gathering.{AreFiguresOf}
 use Rattle.figures.specs.Sides.{side_of}
 use Rattle.figures.specs.declared.quarter_figures.Figures.{Figures}
 use Rattle.pricing.specs.Bounds.{IsBounded}
@@ -40,7 +40,7 @@ pub record RightPrice (f : Filing) (x : Quarter) : Type 0 where
   pub filed : quote_in x ≡ Some quote
   pub code : quote.code ≡ f.rules.code
   pub figures : Figures
-  pub gives : Gives f.source figures
+  pub gives : AreFiguresOf f.source figures
   pub stands : StandsFor (f.rules.ruling figures) f.source.avoided quote
 
 -- an up price is at most half a cent below the weighted mean of the counting demand, and not above the highest up price

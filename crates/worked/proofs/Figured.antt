@@ -1,6 +1,6 @@
 -- The figures of a quarter whose slots are all reported, and the quote of what a rulebook gives for them.
 use Rattle.std.proofs.Common.{arith, ◌≡◌, ℕ, Some, None, Ok, sym, refl, subst}
-use Rattle.figures.specs.Sides.{Given, ReportedTo, net_to, side_of}
+use Rattle.figures.specs.Sides.{SourceGives, ReportedTo, net_to, side_of}
 use Rattle.figures.specs.declared.quarter_figures.Figures.{Figures}
 use Rattle.pricing.specs.Outcomes.{Outcome, avoided, directed}
 use Rattle.pricing.specs.Quotes.{IsQuote, quoted_direction}
@@ -17,8 +17,8 @@ use Rattle.worked.specs.Cases.{LacksAvoidedValue, IsQuotedAs}
 abbrev pub Reports : Meaning → Type 0
 Reports m = ReportedTo m.slots 228
 
-pub given : (m : Meaning) → Reports m → Given m (net_to m.slots 228) m.zone m.avoided (side_of Up m.slots) (side_of Down m.slots)
-given m h = record { all = h; nets = refl; zones = refl; saves = refl; ups = refl; downs = refl }
+pub given : (m : Meaning) → Reports m → SourceGives m (net_to m.slots 228) m.zone m.avoided (side_of Up m.slots) (side_of Down m.slots)
+given m h = record { reported_all = h; local_net_is = refl; zone_net_is = refl; avoided_is = refl; up_is = refl; down_is = refl }
 
 abbrev pub figured : (m : Meaning) → Reports m → Figures
 figured m h = record {

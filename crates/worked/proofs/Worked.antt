@@ -2,7 +2,7 @@
 use Rattle.std.proofs.Common.{[], ◌∷◌, ℤ, pos, negsuc, Some, None, T, leb→le, refl}
 use Rattle.std.specs.Prelude.{nat_le, unsigned_abs}
 use Rattle.units.specs.declared.bounds.TheConstants.{MOST_CENTS}
-use Rattle.figures.specs.Sides.{counting_to, formed_to, net_to}
+use Rattle.figures.specs.Sides.{totals_to, formed_to, net_to}
 use Rattle.pricing.specs.Rulings.{combined_all, combined_automatic, finnish, max_min, weighted_average}
 use Rattle.sheet.specs.Numbers.{quantity}
 use Rattle.source.specs.declared.direction.Direction.TheVariants.{Up}
@@ -40,7 +40,7 @@ by_hand = record {
 
 -- each follows by computing
 pub worked : WorkedByHand by_hand
-unfolding net_to counting_to formed_to rounded half_up quantity number_bytes
+unfolding net_to totals_to formed_to rounded half_up quantity number_bytes
 worked =
     let seven : Price = cents (pos 700) tt in
     record {

@@ -4,9 +4,8 @@ use Rattle.std.proofs.Common.{sym, ap, subst, mul-le-mul_right, arith}
 use borrow.Author.Differences.{ints, product_is, up, down}
 use Rattle.std.proofs.lemmas.Bool.{cond-true, lt-ltb}
 use Rattle.std.specs.Option.{option_map}
-use Rattle.figures.specs.Components.{counting_price, farthest, formed_price, quotient, worth}
-use Rattle.figures.specs.Sides.{cents_of}
-use Rattle.figures.specs.Spans.{low_of, high_of}
+use Rattle.figures.specs.Components.{cents_of, counting_price, extreme_of_span, formed_price, quotient, manual_turnover}
+use Rattle.figures.specs.Spans.{lowest_cents, highest_cents}
 use Rattle.figures.specs.declared.side.Manual.{Manual}
 use Rattle.figures.specs.declared.span.Span.{Span}
 use Rattle.figures.proofs.Sound.{CyclesAre, ManualSound}
@@ -14,12 +13,12 @@ use Rattle.source.specs.declared.direction.Direction.{Direction}
 use Rattle.source.specs.declared.direction.Direction.TheVariants.{Up, Down}
 use Rattle.units.specs.Exact.{Exact, exact_of_price}
 use Rattle.units.specs.declared.price.Price.{Price}
-use Rattle.pricing.specs.FourLaws.{Beyond}
+use Rattle.pricing.specs.FourLaws.{IsNoMoreExtreme}
 use Rattle.pricing.specs.laws.Reach.{Tops}
 
 -- r is as extreme as x / v
 abbrev pub Covers : Direction → Exact → ℤ → ℕ → Type 0
-Covers d r x v = Beyond d (x *ℤ pos r.d) (r.n *ℤ pos v)
+Covers d r x v = IsNoMoreExtreme d (x *ℤ pos r.d) (r.n *ℤ pos v)
 
 distributes : (x y : ℤ) (k : ℕ) → (x +ℤ y) *ℤ pos k ≡ (x *ℤ pos k) +ℤ (y *ℤ pos k)
 distributes x y k =
@@ -44,7 +43,7 @@ pub covers_quotient : (d : Direction) (r : Exact) (x : ℤ) (v : ℕ) → (v ≡
 covers_quotient d r x zero z h = covers_none d r x 0 (z refl) refl
 covers_quotient d r x (suc v) z h = subst (λ o. Tops d o r) (quotient_some x (suc v) (omega arith)) h
 
-scaled : (d : Direction) (p n : ℤ) (D v : ℕ) → Beyond d (p *ℤ pos D) (n *ℤ pos 1) → Beyond d ((pos v *ℤ p) *ℤ pos D) (n *ℤ pos v)
+scaled : (d : Direction) (p n : ℤ) (D v : ℕ) → IsNoMoreExtreme d (p *ℤ pos D) (n *ℤ pos 1) → IsNoMoreExtreme d ((pos v *ℤ p) *ℤ pos D) (n *ℤ pos v)
 scaled Up p n D v h =
     let a = product_is (pos v) p in
     omega (arith, ints, ap (λ k. k * D) a.0, ap (λ k. k * D) a.1, mul-le-mul_right {m = up p * D + down n} {n = up n + down p * D} v (omega (arith, ints)))
@@ -63,11 +62,11 @@ manual_covers : (d : Direction) (r : Exact) (v : ℕ) (o : Option Price) → (1 
 manual_covers d r zero o e h = covers_none d r (pos 0 *ℤ cents_of o) 0 (omega (arith, ints)) refl
 manual_covers d r (suc v) o e h = priced_covers d r (suc v) o (e (omega arith)) (h (omega arith))
 
-pub covers_manual : (d : Direction) (r : Exact) (f : Option Span) (m : Manual) → ManualSound f m → Tops d (counting_price m) r → Covers d r (worth m) m.volume
+pub covers_manual : (d : Direction) (r : Exact) (f : Option Span) (m : Manual) → ManualSound f m → Tops d (counting_price m) r → Covers d r (manual_turnover m) m.volume
 covers_manual d r f m s h = manual_covers d r m.volume m.price s.1 (λ k. subst (λ o. Tops d o r) (counting_some m k) h)
 
 -- the cycles at their extreme price
-extreme_covers : (d : Direction) (N g x : ℤ) (D v : ℕ) → Beyond d (g *ℤ pos D) (N *ℤ pos 1) → Beyond d x (g *ℤ pos v) → Beyond d (x *ℤ pos D) (N *ℤ pos v)
+extreme_covers : (d : Direction) (N g x : ℤ) (D v : ℕ) → IsNoMoreExtreme d (g *ℤ pos D) (N *ℤ pos 1) → IsNoMoreExtreme d x (g *ℤ pos v) → IsNoMoreExtreme d (x *ℤ pos D) (N *ℤ pos v)
 extreme_covers Up N g x D v h k =
     omega (
       arith,
@@ -83,18 +82,18 @@ extreme_covers Down N g x D v h k =
       mul-le-mul_right {m = up g * v + down x} {n = up x + down g * v} D (omega (arith, ints)),
     )
 
-span_covers : (d : Direction) (r : Exact) (x : ℤ) (v : ℕ) (o : Option Span) → is_some o ≡ true → ((low_of o *ℤ pos v) ≤ℤ x) → (x ≤ℤ (high_of o *ℤ pos v)) → Tops d (option_map (farthest d) o) r → Covers d r x v
+span_covers : (d : Direction) (r : Exact) (x : ℤ) (v : ℕ) (o : Option Span) → is_some o ≡ true → ((lowest_cents o *ℤ pos v) ≤ℤ x) → (x ≤ℤ (highest_cents o *ℤ pos v)) → Tops d (option_map (extreme_of_span d) o) r → Covers d r x v
 span_covers d r x v None e l h t = absurd (let z : ◌≡◌ {A = ℕ} 0 1 = cc in omega arith)
 span_covers Up r x v (Some s) e l h t = extreme_covers Up r.n s.highest.cents x r.d v t h
 span_covers Down r x v (Some s) e l h t = extreme_covers Down r.n s.lowest.cents x r.d v t l
 
-zero_value : (o : Option Span) (x : ℤ) → ((low_of o *ℤ pos 0) ≤ℤ x) → (x ≤ℤ (high_of o *ℤ pos 0)) → x ≡ pos 0
-zero_value o x l h = omega (arith, ints)
+zero_turnover : (o : Option Span) (x : ℤ) → ((lowest_cents o *ℤ pos 0) ≤ℤ x) → (x ≤ℤ (highest_cents o *ℤ pos 0)) → x ≡ pos 0
+zero_turnover o x l h = omega (arith, ints)
 
-pub no_value : (most : ℕ) (f : Option Span) (v : ℕ) (x : ℤ) (o : Option Span) → CyclesAre most f v x o → v ≡ 0 → x ≡ pos 0
-no_value most f zero x o s e = zero_value o x s.3 s.4
-no_value most f (suc v) x o s e = absurd (omega arith)
+pub no_turnover : (most : ℕ) (f : Option Span) (v : ℕ) (x : ℤ) (o : Option Span) → CyclesAre most f v x o → v ≡ 0 → x ≡ pos 0
+no_turnover most f zero x o s e = zero_turnover o x s.3 s.4
+no_turnover most f (suc v) x o s e = absurd (omega arith)
 
-pub covers_cycles : (d : Direction) (r : Exact) (most : ℕ) (f : Option Span) (v : ℕ) (x : ℤ) (o : Option Span) → CyclesAre most f v x o → Tops d (option_map (farthest d) o) r → Covers d r x v
-covers_cycles d r most f zero x o s t = covers_none d r x 0 (no_value most f 0 x o s refl) refl
+pub covers_cycles : (d : Direction) (r : Exact) (most : ℕ) (f : Option Span) (v : ℕ) (x : ℤ) (o : Option Span) → CyclesAre most f v x o → Tops d (option_map (extreme_of_span d) o) r → Covers d r x v
+covers_cycles d r most f zero x o s t = covers_none d r x 0 (no_turnover most f 0 x o s refl) refl
 covers_cycles d r most f (suc v) x o s t = span_covers d r x (suc v) o (s.1 (omega arith)) s.3 s.4 t

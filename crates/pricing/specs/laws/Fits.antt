@@ -5,9 +5,8 @@ use borrow.Author.Differences.{ints}
 use Rattle.std.proofs.lemmas.Bool.{cond_both, ltb-true}
 use Rattle.std.specs.Option.{option_map}
 use Rattle.figures.proofs.Gathered.{scaled}
-use Rattle.figures.specs.Components.{Component, automatic_mean, counting_price, cycles_extreme, farthest, formed_price, over_manual, quotient, value, volume, weighted_mean, worth}
-use Rattle.figures.specs.Sides.{cents_of}
-use Rattle.figures.specs.Spans.{low_of, high_of}
+use Rattle.figures.specs.Components.{cents_of, Component, automatic_mean, counting_price, cycles_extreme, extreme_of_span, formed_price, manual_extreme, quotient, turnover, volume, weighted_mean, manual_turnover}
+use Rattle.figures.specs.Spans.{lowest_cents, highest_cents}
 use Rattle.figures.specs.declared.side.Manual.{Manual}
 use Rattle.figures.specs.declared.side.Side.{Side}
 use Rattle.figures.specs.declared.span.Span.{Span}
@@ -17,13 +16,13 @@ use Rattle.source.specs.declared.direction.Direction.{Direction}
 use Rattle.source.specs.declared.direction.Direction.TheVariants.{Up, Down}
 use Rattle.units.specs.Exact.{exact_of_price}
 use Rattle.units.specs.declared.price.Price.{Price}
-use Rattle.pricing.specs.FourLaws.{Within}
+use Rattle.pricing.specs.FourLaws.{LiesWithin}
 use Rattle.pricing.specs.laws.Reach.{OnSome, extreme_keeps}
-use Rattle.pricing.specs.laws.Covers.{no_value}
+use Rattle.pricing.specs.laws.Covers.{no_turnover}
 
 -- x / v lies between the least and the greatest price of f, also where v and x are 0
 abbrev pub Lies : Option Span → ℤ → ℕ → Type 0
-Lies f x v = ((low_of f *ℤ pos v) ≤ℤ x) × (x ≤ℤ (high_of f *ℤ pos v))
+Lies f x v = ((lowest_cents f *ℤ pos v) ≤ℤ x) × (x ≤ℤ (highest_cents f *ℤ pos v))
 
 lies_add : (f : Option Span) (x y : ℤ) (v w : ℕ) → Lies f x v → Lies f y w → Lies f (x +ℤ y) (v + w)
 lies_add f x y v w h g = (omega (arith, ints, h.0, g.0), omega (arith, ints, h.1, g.1))
@@ -32,7 +31,7 @@ swapped : (v : ℕ) (p : ℤ) → pos v *ℤ p ≡ p *ℤ pos v
 swapped v p = omega (arith, ints)
 
 between_lies : (f : Option Span) (p : ℤ) (v : ℕ) → Between f p → Lies f (pos v *ℤ p) v
-between_lies f p v b = subst (λ x. Lies f x v) (sym (swapped v p)) (scaled (low_of f) p v b.1, scaled p (high_of f) v b.2)
+between_lies f p v b = subst (λ x. Lies f x v) (sym (swapped v p)) (scaled (lowest_cents f) p v b.1, scaled p (highest_cents f) v b.2)
 
 zero_lies : (f : Option Span) (x : ℤ) → x ≡ pos 0 → Lies f x 0
 zero_lies f x e = (omega (arith, ints), omega (arith, ints))
@@ -41,24 +40,24 @@ manual_lies : (f : Option Span) (v : ℕ) (p : ℤ) → (1 ≤ v → Between f p
 manual_lies f zero p h = zero_lies f (pos 0 *ℤ p) (omega (arith, ints))
 manual_lies f (suc v) p h = between_lies f p (suc v) (h (omega arith))
 
-pub worth_lies : (f : Option Span) (m : Manual) → ManualSound f m → Lies f (worth m) m.volume
-worth_lies f m s = manual_lies f m.volume (cents_of m.price) (λ k. s.2 (s.1 k))
+pub manual_turnover_lies : (f : Option Span) (m : Manual) → ManualSound f m → Lies f (manual_turnover m) m.volume
+manual_turnover_lies f m s = manual_lies f m.volume (cents_of m.price) (λ k. s.2 (s.1 k))
 
 pub cycles_lies : (most : ℕ) (f : Option Span) (v : ℕ) (x : ℤ) (o : Option Span) → CyclesAre most f v x o → Lies f x v
-cycles_lies most f zero x o s = zero_lies f x (no_value most f 0 x o s refl)
+cycles_lies most f zero x o s = zero_lies f x (no_turnover most f 0 x o s refl)
 cycles_lies most f (suc v) x o s =
     let k = s.2 (s.1 (omega arith)) in
-    let l = scaled (low_of f) (low_of o) (suc v) k.0.1 in
-    let h = scaled (high_of o) (high_of f) (suc v) k.1.2 in
+    let l = scaled (lowest_cents f) (lowest_cents o) (suc v) k.0.1 in
+    let h = scaled (highest_cents o) (highest_cents f) (suc v) k.1.2 in
     (omega (arith, ints, s.3), omega (arith, ints, s.4))
 
-pub value_lies : (s : Side) → Sound s → Lies s.formed (value s) (volume s)
-value_lies s h =
+pub turnover_lies : (s : Side) → Sound s → Lies s.formed (turnover s) (volume s)
+turnover_lies s h =
     let f = s.formed in
-    lies_add f s.cycles.value _ s.cycles.volume _ (cycles_lies _ f s.cycles.volume s.cycles.value s.cycles.span h.0)
-    (lies_add f (worth s.scheduled) _ s.scheduled.volume _ (worth_lies f s.scheduled h.1)
-    (lies_add f (worth s.direct_up) (worth s.direct_down) s.direct_up.volume s.direct_down.volume
-    (worth_lies f s.direct_up h.2) (worth_lies f s.direct_down h.3)))
+    lies_add f s.cycles.turnover _ s.cycles.volume _ (cycles_lies _ f s.cycles.volume s.cycles.turnover s.cycles.span h.0)
+    (lies_add f (manual_turnover s.scheduled) _ s.scheduled.volume _ (manual_turnover_lies f s.scheduled h.1)
+    (lies_add f (manual_turnover s.direct_up) (manual_turnover s.direct_down) s.direct_up.volume s.direct_down.volume
+    (manual_turnover_lies f s.direct_up h.2) (manual_turnover_lies f s.direct_down h.3)))
 
 -- ---- where something counts, prices are formed
 cycles_formed : (s : Side) → Sound s → 1 ≤ s.cycles.volume → is_some s.formed ≡ true
@@ -71,41 +70,41 @@ pub volume_formed : (s : Side) → Sound s → 1 ≤ volume s → is_some s.form
 volume_formed s h k = by_part _ s k (cycles_formed s h) (manual_formed_lem _ s.scheduled h.1) (manual_formed_lem _ s.direct_up h.2) (manual_formed_lem _ s.direct_down h.3)
 
 -- ---- the components
-pub quotient_fits : (f : Option Span) (x : ℤ) (v : ℕ) → (1 ≤ v → is_some f ≡ true) → v ≤ 9_000_000_000 → Lies f x v → OnSome (Within f) (quotient x v)
+pub quotient_fits : (f : Option Span) (x : ℤ) (v : ℕ) → (1 ≤ v → is_some f ≡ true) → v ≤ 9_000_000_000 → Lies f x v → OnSome (LiesWithin f) (quotient x v)
 quotient_fits f x v some few l =
-    cond_both (nat_lt 0 v) (Some (record { n = x; d = v })) None (OnSome (Within f))
-    (λ e. let k : 1 ≤ v = ltb-true 0 v e in record { formed = some k; divides = k; few = few; low = l.0; high = l.1 })
+    cond_both (nat_lt 0 v) (Some (record { n = x; d = v })) None (OnSome (LiesWithin f))
+    (λ e. let k : 1 ≤ v = ltb-true 0 v e in record { formed = some k; divides = k; denominator_bounded = few; low = l.0; high = l.1 })
     (λ e. tt)
 
-pub mean_fits : (s : Side) → Sound s → OnSome (Within s.formed) (weighted_mean s)
-mean_fits s h = quotient_fits s.formed (value s) (volume s) (volume_formed s h) (omega (arith, h.0.0, h.1.0, h.2.0, h.3.0)) (value_lies s h)
+pub mean_fits : (s : Side) → Sound s → OnSome (LiesWithin s.formed) (weighted_mean s)
+mean_fits s h = quotient_fits s.formed (turnover s) (volume s) (volume_formed s h) (omega (arith, h.0.0, h.1.0, h.2.0, h.3.0)) (turnover_lies s h)
 
-pub automatic_fits : (s : Side) → Sound s → OnSome (Within s.formed) (automatic_mean s)
+pub automatic_fits : (s : Side) → Sound s → OnSome (LiesWithin s.formed) (automatic_mean s)
 automatic_fits s h =
-    quotient_fits s.formed s.cycles.value s.cycles.volume (cycles_formed s h) (omega (arith, h.0.0))
-    (cycles_lies _ s.formed s.cycles.volume s.cycles.value s.cycles.span h.0)
+    quotient_fits s.formed s.cycles.turnover s.cycles.volume (cycles_formed s h) (omega (arith, h.0.0))
+    (cycles_lies _ s.formed s.cycles.volume s.cycles.turnover s.cycles.span h.0)
 
-whole_fits : (f : Option Span) (p : Price) → Between f p.cents → Within f (exact_of_price p)
-whole_fits f p b = record { formed = b.0; divides = omega arith; few = omega arith; low = omega (arith, ints, b.1); high = omega (arith, ints, b.2) }
+whole_fits : (f : Option Span) (p : Price) → Between f p.cents → LiesWithin f (exact_of_price p)
+whole_fits f p b = record { formed = b.0; divides = omega arith; denominator_bounded = omega arith; low = omega (arith, ints, b.1); high = omega (arith, ints, b.2) }
 
-price_fits : (f : Option Span) (o : Option Price) → (is_some o ≡ true → Between f (cents_of o)) → OnSome (Within f) (option_map exact_of_price o)
+price_fits : (f : Option Span) (o : Option Price) → (is_some o ≡ true → Between f (cents_of o)) → OnSome (LiesWithin f) (option_map exact_of_price o)
 price_fits f None h = tt
 price_fits f (Some p) h = whole_fits f p (h refl)
 
-pub formed_fits : (f : Option Span) (m : Manual) → ManualSound f m → OnSome (Within f) (formed_price m)
+pub formed_fits : (f : Option Span) (m : Manual) → ManualSound f m → OnSome (LiesWithin f) (formed_price m)
 formed_fits f m s = price_fits f m.price s.2
 
-pub counting_fits : (f : Option Span) (m : Manual) → ManualSound f m → OnSome (Within f) (counting_price m)
-counting_fits f m s = cond_both (nat_lt 0 m.volume) (formed_price m) None (OnSome (Within f)) (λ e. formed_fits f m s) (λ e. tt)
+pub counting_fits : (f : Option Span) (m : Manual) → ManualSound f m → OnSome (LiesWithin f) (counting_price m)
+counting_fits f m s = cond_both (nat_lt 0 m.volume) (formed_price m) None (OnSome (LiesWithin f)) (λ e. formed_fits f m s) (λ e. tt)
 
-span_fits : (d : Direction) (f o : Option Span) → (is_some o ≡ true → Between f (low_of o) × Between f (high_of o)) → OnSome (Within f) (option_map (farthest d) o)
+span_fits : (d : Direction) (f o : Option Span) → (is_some o ≡ true → Between f (lowest_cents o) × Between f (highest_cents o)) → OnSome (LiesWithin f) (option_map (extreme_of_span d) o)
 span_fits d f None h = tt
 span_fits Up f (Some p) h = whole_fits f p.highest (h refl).1
 span_fits Down f (Some p) h = whole_fits f p.lowest (h refl).0
 
-pub cycles_fit : (d : Direction) (s : Side) → Sound s → OnSome (Within s.formed) (cycles_extreme d s)
+pub cycles_fit : (d : Direction) (s : Side) → Sound s → OnSome (LiesWithin s.formed) (cycles_extreme d s)
 cycles_fit d s h = span_fits d s.formed s.cycles.span h.0.2
 
-pub over_fits : (price : Manual → Component) (d : Direction) (s : Side) → ((m : Manual) → ManualSound s.formed m → OnSome (Within s.formed) (price m)) → Sound s → OnSome (Within s.formed) (over_manual price d s)
+pub over_fits : (price : Manual → Component) (d : Direction) (s : Side) → ((m : Manual) → ManualSound s.formed m → OnSome (LiesWithin s.formed) (price m)) → Sound s → OnSome (LiesWithin s.formed) (manual_extreme price d s)
 over_fits price d s p h =
-    extreme_keeps (Within s.formed) d _ _ (p s.scheduled h.1) (extreme_keeps (Within s.formed) d _ _ (p s.direct_up h.2) (p s.direct_down h.3))
+    extreme_keeps (LiesWithin s.formed) d _ _ (p s.scheduled h.1) (extreme_keeps (LiesWithin s.formed) d _ _ (p s.direct_up h.2) (p s.direct_down h.3))

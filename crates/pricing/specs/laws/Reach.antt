@@ -4,11 +4,11 @@ use Rattle.std.proofs.Common.{sym, ap, subst, mul-le-mul_right, arith}
 use borrow.Author.Differences.{ints, up, down}
 use Rattle.std.proofs.lemmas.Int.{by_lt_z}
 use Rattle.std.specs.Option.{unwrap_or}
-use Rattle.figures.specs.Components.{Component, extreme, reaches}
+use Rattle.figures.specs.Components.{Component, extreme, no_more_extreme}
 use Rattle.source.specs.declared.direction.Direction.{Direction}
 use Rattle.source.specs.declared.direction.Direction.TheVariants.{Up, Down}
 use Rattle.units.specs.Exact.{Exact}
-use Rattle.pricing.specs.FourLaws.{Beyond}
+use Rattle.pricing.specs.FourLaws.{IsNoMoreExtreme}
 
 abbrev pub OnSome : (Exact → Type 0) → Component → Type 0
 OnSome P None = Unit {0}
@@ -16,7 +16,7 @@ OnSome P (Some q) = P q
 
 -- r is as extreme as a
 abbrev pub Reach : Direction → Exact → Exact → Type 0
-Reach d a r = Beyond d (a.n *ℤ pos r.d) (r.n *ℤ pos a.d)
+Reach d a r = IsNoMoreExtreme d (a.n *ℤ pos r.d) (r.n *ℤ pos a.d)
 
 abbrev pub Tops : Direction → Component → Exact → Type 0
 Tops d o r = OnSome (λ q. Reach d q r) o
@@ -24,7 +24,7 @@ Tops d o r = OnSome (λ q. Reach d q r) o
 abbrev pub Positive : Component → Type 0
 Positive o = OnSome (λ q. 1 ≤ q.d) o
 
-pub beyond_same : (d : Direction) (x : ℤ) → Beyond d x x
+pub beyond_same : (d : Direction) (x : ℤ) → IsNoMoreExtreme d x x
 beyond_same Up x = omega (arith, ints)
 beyond_same Down x = omega (arith, ints)
 
@@ -34,11 +34,11 @@ le_true x y e = record { le = subst T (sym e) tt }
 le_false : (x y : ℤ) → int_le x y ≡ false → y ≤ℤ x
 le_false x y e = grind (arith, ints)
 
-pub reach_true : (d : Direction) (a b : Exact) → reaches d a b ≡ true → Reach d a b
+pub reach_true : (d : Direction) (a b : Exact) → no_more_extreme d a b ≡ true → Reach d a b
 reach_true Up a b e = le_true _ _ e
 reach_true Down a b e = le_true _ _ e
 
-pub reach_false : (d : Direction) (a b : Exact) → reaches d a b ≡ false → Reach d b a
+pub reach_false : (d : Direction) (a b : Exact) → no_more_extreme d a b ≡ false → Reach d b a
 reach_false Up a b e = le_false _ _ e
 reach_false Down a b e = le_false _ _ e
 
@@ -65,7 +65,7 @@ pick false P x y p q = q
 pub extreme_keeps : (P : Exact → Type 0) (d : Direction) (a b : Component) → OnSome P a → OnSome P b → OnSome P (extreme d a b)
 extreme_keeps P d None b x y = y
 extreme_keeps P d (Some a) None x y = x
-extreme_keeps P d (Some a) (Some b) x y = pick (reaches d a b) (OnSome P) (Some b) (Some a) y x
+extreme_keeps P d (Some a) (Some b) x y = pick (no_more_extreme d a b) (OnSome P) (Some b) (Some a) y x
 
 some_same : (q r : Exact) → Some q ≡ Some r → q ≡ r
 some_same q r e = ap (λ o. unwrap_or o q) e
@@ -81,7 +81,7 @@ two_top d a b r false h g e = (tops_self d (Some a) r e, subst (λ x. Reach d b 
 pub extreme_tops : (d : Direction) (a b : Component) (r : Exact) → extreme d a b ≡ Some r → Tops d a r × Tops d b r
 extreme_tops d None b r e = (tt, tops_self d b r e)
 extreme_tops d (Some a) None r e = (tops_self d (Some a) r e, tt)
-extreme_tops d (Some a) (Some b) r e = two_top d a b r (reaches d a b) (reach_true d a b) (reach_false d a b) e
+extreme_tops d (Some a) (Some b) r e = two_top d a b r (no_more_extreme d a b) (reach_true d a b) (reach_false d a b) e
 
 two_parts : (d : Direction) (a b r : Exact) (t : Bool) → 1 ≤ a.d → 1 ≤ b.d → (t ≡ true → Reach d a b) → (t ≡ false → Reach d b a) → Tops d (cond t (Some b) (Some a)) r → Reach d a r × Reach d b r
 two_parts d a b r true p q h g x = (reach_trans d a b r q (h refl) x, x)
@@ -90,7 +90,7 @@ two_parts d a b r false p q h g x = (x, reach_trans d b a r p (g refl) x)
 pub tops_parts : (d : Direction) (a b : Component) (r : Exact) → Positive a → Positive b → Tops d (extreme d a b) r → Tops d a r × Tops d b r
 tops_parts d None b r p q x = (tt, x)
 tops_parts d (Some a) None r p q x = (x, tt)
-tops_parts d (Some a) (Some b) r p q x = two_parts d a b r (reaches d a b) p q (reach_true d a b) (reach_false d a b) x
+tops_parts d (Some a) (Some b) r p q x = two_parts d a b r (no_more_extreme d a b) p q (reach_true d a b) (reach_false d a b) x
 
 both_some : (t : Bool) (a b : Exact) → is_some (cond t (Some b) (Some a)) ≡ true
 both_some true a b = refl
@@ -99,9 +99,9 @@ both_some false a b = refl
 pub extreme_first : (d : Direction) (a b : Component) → is_some a ≡ true → is_some (extreme d a b) ≡ true
 extreme_first d None b e = absurd (let z : ◌≡◌ {A = ℕ} 0 1 = cc in omega arith)
 extreme_first d (Some a) None e = refl
-extreme_first d (Some a) (Some b) e = both_some (reaches d a b) a b
+extreme_first d (Some a) (Some b) e = both_some (no_more_extreme d a b) a b
 
 pub extreme_second : (d : Direction) (a b : Component) → is_some b ≡ true → is_some (extreme d a b) ≡ true
 extreme_second d None b e = e
 extreme_second d (Some a) None e = refl
-extreme_second d (Some a) (Some b) e = both_some (reaches d a b) a b
+extreme_second d (Some a) (Some b) e = both_some (no_more_extreme d a b) a b

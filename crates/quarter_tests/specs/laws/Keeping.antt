@@ -3,11 +3,11 @@ use Rattle.std.specs.Prelude.{◌≡◌, ℕ, Bool, true, false, cond, is_some, 
 use Rattle.std.proofs.Common.{sym, subst, arith}
 use Rattle.std.proofs.lemmas.Bool.{cond_both}
 use borrow.Author.Differences.{ints}
-use Rattle.figures.specs.Components.{Component, extreme, farthest, reaches, value, volume, weighted_mean}
+use Rattle.figures.specs.Components.{Component, extreme, extreme_of_span, no_more_extreme, turnover, volume, weighted_mean}
 use Rattle.figures.specs.declared.span.Span.{Span}
 use Rattle.pricing.specs.laws.Fits.{mean_fits}
 use Rattle.pricing.specs.laws.Lawful.{IsLawfulRule, mean_covers, quotient_exists}
-use Rattle.pricing.specs.FourLaws.{Within}
+use Rattle.pricing.specs.FourLaws.{LiesWithin}
 use Rattle.pricing.specs.laws.Reach.{OnSome, Reach, Tops, beyond_same, cross, extreme_first, extreme_tops, reach_false, reach_true}
 use Rattle.quarter_tests.specs.References.{mean_or_reference, opposite, reference_price, reference_within}
 use Rattle.source.specs.declared.direction.Direction.{Direction}
@@ -16,18 +16,18 @@ use Rattle.units.specs.Exact.{Exact, exact_of_price}
 use Rattle.units.specs.declared.price.Price.{Price}
 
 -- a price that is as extreme as one between the lowest and the highest, and no more extreme than all, lies between them too
-price_within : (d : Direction) (s : Span) (m : Exact) (q : Price) → Within (Some s) m → Reach d m (exact_of_price q) → Reach d (exact_of_price q) (farthest d s) → Within (Some s) (exact_of_price q)
+price_within : (d : Direction) (s : Span) (m : Exact) (q : Price) → LiesWithin (Some s) m → Reach d m (exact_of_price q) → Reach d (exact_of_price q) (extreme_of_span d s) → LiesWithin (Some s) (exact_of_price q)
 price_within Up s m q w h g = record {
   formed = refl;
   divides = omega arith;
-  few = omega arith;
+  denominator_bounded = omega arith;
   low = omega (arith, ints, cross s.lowest.cents m.n q.cents 1 m.d 1 w.divides (omega (arith, ints, w.low)) h);
   high = omega (arith, ints, g);
 }
 price_within Down s m q w h g = record {
   formed = refl;
   divides = omega arith;
-  few = omega arith;
+  denominator_bounded = omega arith;
   low = omega (arith, ints, g);
   high = omega (arith, ints, cross q.cents m.n s.highest.cents 1 m.d 1 w.divides h (omega (arith, ints, w.high)));
 }
@@ -37,25 +37,25 @@ turned Up a b h = h
 turned Down a b h = h
 
 -- the reference is some price, and no more extreme than all formed
-chosen : (d : Direction) (s : Span) (p : Price) (t : Bool) → (t ≡ false → Reach d (exact_of_price p) (farthest d s))
-    → (q : Price) × (cond t (Some (farthest d s)) (Some (exact_of_price p)) ≡ Some (exact_of_price q)) × Reach d (exact_of_price q) (farthest d s)
+chosen : (d : Direction) (s : Span) (p : Price) (t : Bool) → (t ≡ false → Reach d (exact_of_price p) (extreme_of_span d s))
+    → (q : Price) × (cond t (Some (extreme_of_span d s)) (Some (exact_of_price p)) ≡ Some (exact_of_price q)) × Reach d (exact_of_price q) (extreme_of_span d s)
 chosen Up s p true h = (s.highest, refl, beyond_same Up _)
 chosen Down s p true h = (s.lowest, refl, beyond_same Down _)
 chosen d s p false h = (p, refl, h refl)
 
-reference_fits : (d : Direction) (f : Option Span) (m : Exact) (p : Price) → Within f m → OnSome (Within f) (extreme d (Some m) (reference_within p d f))
+reference_fits : (d : Direction) (f : Option Span) (m : Exact) (p : Price) → LiesWithin f m → OnSome (LiesWithin f) (extreme d (Some m) (reference_within p d f))
 reference_fits d None m p w = absurd (let z : ◌≡◌ {A = ℕ} 0 1 = cc in omega arith)
 reference_fits d (Some s) m p w =
-    let t = reaches (opposite d) (exact_of_price p) (farthest d s) in
-    let c = chosen d s p t (λ e. turned d (farthest d s) (exact_of_price p) (reach_false (opposite d) (exact_of_price p) (farthest d s) e)) in
-    subst (λ o. OnSome (Within (Some s)) (extreme d (Some m) o)) (sym c.1)
-    (cond_both (reaches d m (exact_of_price c.0)) (Some (exact_of_price c.0)) (Some m) (OnSome (Within (Some s))) (λ e. price_within d s m c.0 w (reach_true d m (exact_of_price c.0) e) c.2) (λ e. w))
+    let t = no_more_extreme (opposite d) (exact_of_price p) (extreme_of_span d s) in
+    let c = chosen d s p t (λ e. turned d (extreme_of_span d s) (exact_of_price p) (reach_false (opposite d) (exact_of_price p) (extreme_of_span d s) e)) in
+    subst (λ o. OnSome (LiesWithin (Some s)) (extreme d (Some m) o)) (sym c.1)
+    (cond_both (no_more_extreme d m (exact_of_price c.0)) (Some (exact_of_price c.0)) (Some m) (OnSome (LiesWithin (Some s))) (λ e. price_within d s m c.0 w (reach_true d m (exact_of_price c.0) e) c.2) (λ e. w))
 
 mean_exists : (d : Direction) (c r : Component) → is_some c ≡ true → is_some (mean_or_reference d c r) ≡ true
 mean_exists d None r e = e
 mean_exists d (Some m) r e = extreme_first d (Some m) r refl
 
-both_fit : (d : Direction) (f : Option Span) (p : Price) (c : Component) → OnSome (Within f) c → OnSome (Within f) (mean_or_reference d c (reference_within p d f))
+both_fit : (d : Direction) (f : Option Span) (p : Price) (c : Component) → OnSome (LiesWithin f) c → OnSome (LiesWithin f) (mean_or_reference d c (reference_within p d f))
 both_fit d f p None w = tt
 both_fit d f p (Some m) w = reference_fits d f m p w
 
@@ -65,7 +65,7 @@ tops_mean d (Some m) r q e = (extreme_tops d (Some m) r q e).0
 
 pub reference_lawful : (p : Price) → IsLawfulRule (reference_price p)
 reference_lawful p = record {
-  exists = λ d s h k. mean_exists d (weighted_mean s) (reference_within p d s.formed) (quotient_exists (value s) (volume s) k);
+  exists = λ d s h k. mean_exists d (weighted_mean s) (reference_within p d s.formed) (quotient_exists (turnover s) (volume s) k);
   fits = λ d s h. both_fit d s.formed p (weighted_mean s) (mean_fits s h);
   covers = λ d s r h e. mean_covers d s r h (tops_mean d (weighted_mean s) (reference_within p d s.formed) r e);
 }

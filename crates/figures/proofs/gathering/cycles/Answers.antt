@@ -1,7 +1,7 @@
 use Rattle.std.proofs.Common.{◌+◌, sym, subst, arith, below_none, below_more}
 use Rattle.source.specs.declared.direction.Direction.TheVariants.{Up, Down}
 use Rattle.figures.specs.Sides.{formed_to}
-use Rattle.figures.specs.Tallies.{Tallied}
+use Rattle.figures.specs.steps.Tallies.{Tallied}
 use Rattle.figures.proofs.Steps.{blank_tallied, cycles_room, cycle_tallied, is_reported, net_room}
 use Rattle.figures.proofs.gathering.cycles.Goals as goal
 

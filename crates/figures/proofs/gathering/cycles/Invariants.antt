@@ -1,5 +1,5 @@
 use Rattle.figures.specs.Sides.{ReportedTo}
-use Rattle.figures.specs.Tallies.{Tallied}
+use Rattle.figures.specs.steps.Tallies.{Tallied}
 use Rattle.figures.proofs.gathering.cycles.Given as goal
 
 abbrev pub invariant-loop-slot : goal.invariant-loop-slot

@@ -44,4 +44,4 @@ returns g c =
     c.in_ok-tally.ensures c.in_ok-scheduled.ensures c.in_ok-direct_up.ensures c.in_ok-direct_down.ensures
     c.noting.ensures c.noting-2.ensures c.noting-all.ensures _ _ _ _ _ (search rules) c.zone_net.ensures c.avoided.ensures
     c.side.ensures c.side-2.ensures in
-    record { value = given; counting = counts_shown (g.S.PriceSource.means c.args.source.now) _ given }
+    record { figures_of_the_source = given; volume_where_counting = counts_shown (g.S.PriceSource.means c.args.source.now) _ given }

@@ -14,7 +14,7 @@ returns g c =
     let r = c.args.rulebook.now in
     let f = c.in_ok-figures.figures in
     let answer = c.quote_figures.result in
-    let gives = c.in_ok-figures.ensures.value in
+    let gives = c.in_ok-figures.ensures.figures_of_the_source in
     let quoted = from_figures m g.R.Rulebook.CODE (g.R.Rulebook.ruling r) f answer gives c.quote_figures.ensures.quote_of_the_ruling in
     record {
       quote_of_the_source = quoted;

@@ -1,7 +1,7 @@
 use borrow.Author.Differences.{ints}
 use Rattle.std.proofs.Common.{◌≡◌, ◌≤◌, pos, ◌*ℤ◌, sym, refl, ap, ◌∙◌, arith, w64, to_z, of_z, subst}
 use Rattle.figures.specs.Sides.{volume_of}
-use Rattle.figures.specs.Tallies.{counting_in}
+use Rattle.figures.specs.steps.Tallies.{counting_in}
 use Rattle.std.proofs.lemmas.Int.{to_z-of_z, to_z_pos}
 use Rattle.figures.proofs.Products.{product_within, sum_kept, tally_same}
 use Rattle.figures.proofs.tally.DirectionTally.counting.Goals as goal
@@ -20,4 +20,4 @@ returns c =
     let s : to_z w64 v ≡ pos v = omega (arith, ints) in
     let t : to_z w64 (of_z w64 c.cents.result) ≡ p = omega (arith, ints) in
     let e : to_z w64 v *ℤ to_z w64 (of_z w64 c.cents.result) ≡ pos v *ℤ p = ap (λ z. z *ℤ to_z w64 (of_z w64 c.cents.result)) s ∙ ap (λ z. pos v *ℤ z) t in
-    tally_same _ _ _ _ _ _ _ _ _ _ refl (sum_kept c.args.self.value _ (pos v *ℤ p) e (omega arith) (omega arith)) c.lesser.ensures c.greater.ensures ∙ ap (λ o. counting_in o c.args.self) (sym c.in-Some.is)
+    tally_same _ _ _ _ _ _ _ _ _ _ refl (sum_kept c.args.self.turnover _ (pos v *ℤ p) e (omega arith) (omega arith)) c.lesser.ensures c.greater.ensures ∙ ap (λ o. counting_in o c.args.self) (sym c.in-Some.is)

@@ -1,12 +1,13 @@
--- The sums over the slots that were read so far, one slot at a time: what the private functions of the gathering promise.
+-- The sums over the slots that were read so far, one slot at a time.
 use Rattle.std.specs.Prelude.{◌≡◌, ℕ, ◌+◌, ◌*◌, ◌≤◌, pos, ◌+ℤ◌, ◌*ℤ◌, Some, None, Option, unsigned_abs}
 use Rattle.source.specs.Slots.{formed}
 use Rattle.source.specs.declared.direction.Direction.{Direction}
 use Rattle.source.specs.declared.direction.Direction.TheVariants.{Up, Down}
 use Rattle.units.specs.declared.price.Price.{Price}
 use Rattle.figures.specs.Counting.{counted}
-use Rattle.figures.specs.Sides.{Slots, net_to, formed_to, counting_to, none, volume_of}
-use Rattle.figures.specs.Spans.{greater, highest_of, lesser, lowest_of, span_between}
+use Rattle.figures.specs.Sides.{Slots, net_to, formed_to, totals_to, no_totals, volume_of}
+use Rattle.figures.specs.Spans.{greater, lesser}
+use Rattle.figures.specs.steps.Spans.{highest_of, lowest_of, span_between}
 use Rattle.figures.specs.declared.side.Activation.{Activation}
 use Rattle.figures.specs.declared.side.Manual.{Manual}
 use Rattle.figures.specs.declared.side.Totals.{Totals}
@@ -19,7 +20,7 @@ use Rattle.figures.specs.declared.weighed.Weighed.{Weighed}
 abbrev pub tally_of : Totals → Option Span → DirectionTally
 tally_of c f = record {
   volume = c.volume;
-  value = c.value;
+  turnover = c.turnover;
   lowest_counting = lowest_of c.span;
   highest_counting = highest_of c.span;
   lowest_formed = lowest_of f;
@@ -28,24 +29,26 @@ tally_of c f = record {
 
 -- the totals of the cycles again
 abbrev pub cycles_of : DirectionTally → Totals
-cycles_of t = record { volume = t.volume; value = t.value; span = span_between t.lowest_counting t.highest_counting }
+cycles_of t = record { volume = t.volume; turnover = t.turnover; span = span_between t.lowest_counting t.highest_counting }
 
 -- there is room for one cycle more
 abbrev pub Room : DirectionTally → Type 0
-Room t = (t.volume ≤ 2_250_000_000) × (unsigned_abs t.value ≤ 9_999_900 * t.volume)
+Room t = (t.volume ≤ 2_250_000_000) × (unsigned_abs t.turnover ≤ 9_999_900 * t.volume)
 
+-- a manual slot in a direction: its volume, 0 unless it counts, and its formed price
 abbrev pub manual : Direction → Weighed → Manual
 manual d w = record { volume = volume_of (counted d w.weight w.reading); price = formed d w.reading }
 
+-- before the first slot
 abbrev pub blank : Tally
-blank = record { net = pos 0; up = tally_of none None; down = tally_of none None }
+blank = record { net = pos 0; up = tally_of no_totals None; down = tally_of no_totals None }
 
 -- one price more, where it is formed
 abbrev pub noting_in : Option Price → DirectionTally → DirectionTally
 noting_in None t = t
 noting_in (Some p) t = record {
   volume = t.volume;
-  value = t.value;
+  turnover = t.turnover;
   lowest_counting = t.lowest_counting;
   highest_counting = t.highest_counting;
   lowest_formed = lesser p t.lowest_formed;
@@ -57,17 +60,18 @@ abbrev pub counting_in : Option Activation → DirectionTally → DirectionTally
 counting_in None t = t
 counting_in (Some a) t = record {
   volume = t.volume + a.volume;
-  value = t.value +ℤ (pos a.volume *ℤ a.price.cents);
+  turnover = t.turnover +ℤ (pos a.volume *ℤ a.price.cents);
   lowest_counting = lesser a.price t.lowest_counting;
   highest_counting = greater a.price t.highest_counting;
   lowest_formed = t.lowest_formed;
   highest_formed = t.highest_formed;
 }
 
--- the price that a cycle has in a direction, and what it counts there
+-- one cycle more in a direction: the price formed there, and what it counts
 abbrev pub with_in : Direction → Weighed → DirectionTally → DirectionTally
 with_in d w t = counting_in (counted d w.weight w.reading) (noting_in (formed d w.reading) t)
 
+-- the demand and the formed prices of one slot more
 abbrev pub noting : Weighed → Tally → Tally
 noting w t = record {
   net = t.net +ℤ (pos w.weight *ℤ w.reading.demand.kw);
@@ -75,6 +79,7 @@ noting w t = record {
   down = noting_in w.reading.down t.down;
 }
 
+-- what one cycle more counts in each direction
 abbrev pub counting : Weighed → Tally → Tally
 counting w t = record {
   net = t.net;
@@ -85,5 +90,5 @@ counting w t = record {
 -- the first n slots are noted, and the first c of them counted
 pub record Tallied (m : Slots) (n c : ℕ) (t : Tally) : Type 0 where
   pub nets : t.net ≡ net_to m n
-  pub ups : t.up ≡ tally_of (counting_to Up m c) (formed_to Up m n)
-  pub downs : t.down ≡ tally_of (counting_to Down m c) (formed_to Down m n)
+  pub ups : t.up ≡ tally_of (totals_to Up m c) (formed_to Up m n)
+  pub downs : t.down ≡ tally_of (totals_to Down m c) (formed_to Down m n)

@@ -1,0 +1,4 @@
+-- What only private functions cite.
+pub mod Spans
+pub mod Tallies
+pub mod Gathering
