@@ -5,7 +5,7 @@ use Rattle.units.specs.declared.price.Price.{Price}
 
 -- the lesser of two prices
 abbrev pub lesser : Price → Price → Price
-lesser p q = if int_lt p.cents q.cents then p else q
+lesser p q = if int_lt q.cents p.cents then q else p
 
 -- the greater of two prices
 abbrev pub greater : Price → Price → Price

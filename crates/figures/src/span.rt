@@ -1,6 +1,5 @@
 // The lowest and the highest of some prices.
 ghost use Rattle.std.specs.Prelude.{◌≡◌};
-ghost use Rattle.figures.specs.Spans.{greater, lesser};
 ghost use Rattle.figures.specs.steps.Spans.{span_between};
 
 use units::Price;
@@ -9,18 +8,6 @@ use units::Price;
 pub struct Span {
     pub lowest: Price,
     pub highest: Price,
-}
-
-pub(crate) fn lesser(p: Price, q: Price) -> Price
-    ensures { result ≡ lesser p q }
-{
-    if p.cents() < q.cents() { p } else { q }
-}
-
-pub(crate) fn greater(p: Price, q: Price) -> Price
-    ensures { result ≡ greater p q }
-{
-    if q.cents() < p.cents() { p } else { q }
 }
 
 // The lowest and the highest, where there was a price: without one they are the bounds of a price, crossed.

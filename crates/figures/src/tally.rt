@@ -5,7 +5,7 @@ ghost use Rattle.figures.specs.Sides.{no_totals, volume_of};
 ghost use Rattle.figures.specs.steps.Tallies.{Room, blank, counting, counting_in, cycles_of, manual, noting, noting_in, tally_of, with_in};
 
 use crate::side::{Activation, Manual, Totals};
-use crate::span::{greater, lesser, span_between};
+use crate::span::span_between;
 use crate::weighed::Weighed;
 use source::Direction;
 use units::Price;
@@ -109,8 +109,8 @@ impl DirectionTally {
             turnover: self.turnover,
             lowest_counting: self.lowest_counting,
             highest_counting: self.highest_counting,
-            lowest_formed: lesser(price, self.lowest_formed),
-            highest_formed: greater(price, self.highest_formed),
+            lowest_formed: price.min(self.lowest_formed),
+            highest_formed: price.max(self.highest_formed),
         }
     }
 
@@ -126,8 +126,8 @@ impl DirectionTally {
         DirectionTally {
             volume: self.volume + added.volume,
             turnover: self.turnover + added.volume as i64 * added.price.cents(),
-            lowest_counting: lesser(added.price, self.lowest_counting),
-            highest_counting: greater(added.price, self.highest_counting),
+            lowest_counting: added.price.min(self.lowest_counting),
+            highest_counting: added.price.max(self.highest_counting),
             lowest_formed: self.lowest_formed,
             highest_formed: self.highest_formed,
         }

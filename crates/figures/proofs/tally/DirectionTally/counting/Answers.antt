@@ -1,6 +1,8 @@
 use borrow.Author.Differences.{ints}
 use Rattle.std.proofs.Common.{◌≡◌, ◌≤◌, pos, ◌*ℤ◌, sym, refl, ap, ◌∙◌, arith, w64, to_z, of_z, subst}
+use Rattle.std.proofs.lemmas.Grind.{common_steps}
 use Rattle.figures.specs.Sides.{volume_of}
+use Rattle.figures.specs.Spans.{greater, lesser}
 use Rattle.figures.specs.steps.Tallies.{counting_in}
 use Rattle.std.proofs.lemmas.Int.{to_z-of_z, to_z_pos}
 use Rattle.figures.proofs.Products.{product_within, sum_kept, tally_same}
@@ -20,4 +22,7 @@ returns c =
     let s : to_z w64 v ≡ pos v = omega (arith, ints) in
     let t : to_z w64 (of_z w64 c.cents.result) ≡ p = omega (arith, ints) in
     let e : to_z w64 v *ℤ to_z w64 (of_z w64 c.cents.result) ≡ pos v *ℤ p = ap (λ z. z *ℤ to_z w64 (of_z w64 c.cents.result)) s ∙ ap (λ z. pos v *ℤ z) t in
-    tally_same _ _ _ _ _ _ _ _ _ _ refl (sum_kept c.args.self.turnover _ (pos v *ℤ p) e (omega arith) (omega arith)) c.lesser.ensures c.greater.ensures ∙ ap (λ o. counting_in o c.args.self) (sym c.in-Some.is)
+    let k = sum_kept c.args.self.turnover _ (pos v *ℤ p) e (omega arith) (omega arith) in
+    let l : c.min.result ≡ lesser c.in-Some.added.price c.args.self.lowest_counting = grind (arith, common_steps) in
+    let g : c.max.result ≡ greater c.in-Some.added.price c.args.self.highest_counting = grind (arith, common_steps) in
+    tally_same _ _ _ _ _ _ _ _ _ _ refl k l g ∙ ap (λ o. counting_in o c.args.self) (sym c.in-Some.is)
