@@ -1,4 +1,5 @@
 -- What only private functions cite.
+pub mod Bounds
 pub mod Spans
 pub mod Tallies
 pub mod Gathering

@@ -1,8 +1,10 @@
 // The prices that a rulebook may take from the figures.
 ghost use Rattle.std.specs.Prelude.{◌≡◌, ◌+◌, ◌*◌, ◌≤◌, ◌+ℤ◌, Option, unsigned_abs};
 ghost use Rattle.figures.specs.Components.{Component, automatic_mean, component_of, counting_price, cycles_extreme, extreme, extreme_of_span, formed_price, manual_counts, manual_extreme, manual_turnover, no_more_extreme, side_in, weighted_mean};
+ghost use Rattle.figures.specs.steps.Bounds.{most_volume};
 ghost use Rattle.figures.specs.declared.side.Manual.{Manual};
 ghost use Rattle.units.specs.Exact.{exact_of};
+ghost use Rattle.units.specs.declared.bounds.TheConstants.{MOST_CENTS};
 ghost use Rattle.units.specs.declared.ratio.Ratio.{Ratio};
 
 use crate::quarter_figures::Figures;
@@ -45,9 +47,9 @@ impl Span {
 impl Manual {
     // Volume times price.
     fn turnover(self) -> i64
-        requires { self.volume ≤ 2_250_000_000 }
+        requires { self.volume ≤ most_volume }
         ensures volume_times_price { result ≡ manual_turnover self }
-        ensures bounded { unsigned_abs result ≤ 9_999_900 * self.volume }
+        ensures bounded { unsigned_abs result ≤ MOST_CENTS * self.volume }
     {
         let cents = self.price.map_or(0, |price| price.cents());
         self.volume as i64 * cents
@@ -73,11 +75,11 @@ impl Manual {
 impl Side {
     // Volume times price, summed over the manual slots.
     fn manual_turnovers(self) -> i64
-        requires scheduled { self.scheduled.volume ≤ 2_250_000_000 }
-        requires direct_up { self.direct_up.volume ≤ 2_250_000_000 }
-        requires direct_down { self.direct_down.volume ≤ 2_250_000_000 }
+        requires scheduled { self.scheduled.volume ≤ most_volume }
+        requires direct_up { self.direct_up.volume ≤ most_volume }
+        requires direct_down { self.direct_down.volume ≤ most_volume }
         ensures summed { result ≡ manual_turnover self.scheduled +ℤ (manual_turnover self.direct_up +ℤ manual_turnover self.direct_down) }
-        ensures bounded { unsigned_abs result ≤ 9_999_900 * (self.scheduled.volume + (self.direct_up.volume + self.direct_down.volume)) }
+        ensures bounded { unsigned_abs result ≤ MOST_CENTS * (self.scheduled.volume + (self.direct_up.volume + self.direct_down.volume)) }
     {
         self.scheduled.turnover() + self.direct_up.turnover() + self.direct_down.turnover()
     }

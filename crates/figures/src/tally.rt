@@ -2,6 +2,7 @@
 ghost use Rattle.std.specs.Prelude.{◌≡◌, ◌*◌, ◌≤◌, pos, ◌*ℤ◌, unsigned_abs};
 ghost use Rattle.figures.specs.Counting.{counted, demand_in};
 ghost use Rattle.figures.specs.Sides.{no_totals, volume_of};
+ghost use Rattle.figures.specs.steps.Bounds.{most_net, most_volume};
 ghost use Rattle.figures.specs.steps.Tallies.{Room, blank, counting, counting_in, cycles_of, manual, noting, noting_in, tally_of, with_in};
 
 use crate::side::{Activation, Manual, Totals};
@@ -45,14 +46,14 @@ impl Weighed {
 
     fn energy(self) -> i64
         ensures weight_times_demand { result ≡ pos self.weight *ℤ self.reading.demand.kw }
-        ensures small { unsigned_abs result ≤ 2_250_000_000 }
+        ensures small { unsigned_abs result ≤ most_volume }
     {
         self.weight as i64 * self.reading.demand.kw()
     }
 
     fn activation(self, direction: Direction) -> Option<Activation>
         ensures what_counts { result ≡ counted direction self.weight self.reading }
-        ensures small { volume_of result ≤ 2_250_000_000 }
+        ensures small { volume_of result ≤ most_volume }
     {
         let size = self.demand_in(direction);
         let volume = self.weight * size;
@@ -117,7 +118,7 @@ impl DirectionTally {
     // One cycle more, where it counts.
     fn counting(self, activation: Option<Activation>) -> DirectionTally
         requires room { Room self }
-        requires small { volume_of activation ≤ 2_250_000_000 }
+        requires small { volume_of activation ≤ most_volume }
         ensures { result ≡ counting_in activation self }
     {
         let Some(added) = activation else {
@@ -159,7 +160,7 @@ impl Tally {
 
     // The demand and the formed prices of one slot more.
     pub(crate) fn noting(self, slot: Weighed) -> Tally
-        requires { unsigned_abs self.net ≤ 513_000_000_000 }
+        requires { unsigned_abs self.net ≤ most_net }
         ensures { result ≡ noting slot self }
     {
         Tally {
@@ -171,7 +172,7 @@ impl Tally {
 
     // One cycle more.
     pub(crate) fn with(self, cycle: Weighed) -> Tally
-        requires net { unsigned_abs self.net ≤ 513_000_000_000 }
+        requires net { unsigned_abs self.net ≤ most_net }
         requires up { Room self.up }
         requires down { Room self.down }
         ensures { result ≡ counting cycle (noting cycle self) }

@@ -1,5 +1,6 @@
 // A slot's reading, with the weight of its number.
 ghost use Rattle.std.specs.Prelude.{◌≤◌};
+ghost use Rattle.source.specs.declared.product.TheConstants.{CYCLES};
 
 use source::Reading;
 
@@ -7,5 +8,5 @@ use source::Reading;
 pub(crate) struct Weighed {
     pub(crate) weight: u64,
     pub(crate) reading: Reading,
-    ghost light: { weight ≤ 225 },
+    ghost light: { weight ≤ CYCLES },
 }

@@ -10,6 +10,7 @@ use Rattle.source.specs.Meanings.{Meaning}
 use Rattle.source.specs.declared.direction.Direction.{Direction}
 use Rattle.source.specs.declared.direction.Direction.TheVariants.{Up, Down}
 use Rattle.units.specs.Exact.{Exact}
+use Rattle.units.specs.declared.bounds.TheConstants.{MOST_DENOMINATOR}
 use Rattle.pricing.specs.Outcomes.{Outcome, avoided, directed, net_of}
 use Rattle.pricing.specs.declared.ruling.Net.{Net}
 
@@ -27,7 +28,7 @@ IsNotAvoidedWhereCounting z f o = (m : Meaning) (d : Direction) → AreFiguresOf
 pub record LiesWithin (f : Option Span) (q : Exact) : Type 0 where
   pub formed : is_some f ≡ true
   pub divides : 1 ≤ q.d
-  pub denominator_bounded : q.d ≤ 9_000_000_000
+  pub bounded_denominator : q.d ≤ MOST_DENOMINATOR
   pub low : (lowest_cents f *ℤ pos q.d) ≤ℤ q.n
   pub high : q.n ≤ℤ (highest_cents f *ℤ pos q.d)
 

@@ -7,6 +7,8 @@ use Rattle.units.specs.declared.price.Price.{Price}
 use Rattle.figures.specs.Counting.{counted}
 use Rattle.figures.specs.Sides.{Slots, net_to, formed_to, totals_to, no_totals, volume_of}
 use Rattle.figures.specs.Spans.{greater, lesser}
+use Rattle.units.specs.declared.bounds.TheConstants.{MOST_CENTS}
+use Rattle.figures.specs.steps.Bounds.{most_volume}
 use Rattle.figures.specs.steps.Spans.{highest_of, lowest_of, span_between}
 use Rattle.figures.specs.declared.side.Activation.{Activation}
 use Rattle.figures.specs.declared.side.Manual.{Manual}
@@ -33,7 +35,7 @@ cycles_of t = record { volume = t.volume; turnover = t.turnover; span = span_bet
 
 -- there is room for one cycle more
 abbrev pub Room : DirectionTally → Type 0
-Room t = (t.volume ≤ 2_250_000_000) × (unsigned_abs t.turnover ≤ 9_999_900 * t.volume)
+Room t = (t.volume ≤ most_volume) × (unsigned_abs t.turnover ≤ MOST_CENTS * t.volume)
 
 -- a manual slot in a direction: its volume, 0 unless it counts, and its formed price
 abbrev pub manual : Direction → Weighed → Manual

@@ -15,6 +15,7 @@ use Rattle.figures.proofs.Sound.{Between, CyclesAre, ManualSound, Sound}
 use Rattle.source.specs.declared.direction.Direction.{Direction}
 use Rattle.source.specs.declared.direction.Direction.TheVariants.{Up, Down}
 use Rattle.units.specs.Exact.{exact_of_price}
+use Rattle.units.specs.declared.bounds.TheConstants.{MOST_DENOMINATOR}
 use Rattle.units.specs.declared.price.Price.{Price}
 use Rattle.pricing.specs.FourLaws.{LiesWithin}
 use Rattle.pricing.specs.laws.Reach.{OnSome, extreme_keeps}
@@ -70,10 +71,10 @@ pub volume_formed : (s : Side) → Sound s → 1 ≤ volume s → is_some s.form
 volume_formed s h k = by_part _ s k (cycles_formed s h) (manual_formed_lem _ s.scheduled h.1) (manual_formed_lem _ s.direct_up h.2) (manual_formed_lem _ s.direct_down h.3)
 
 -- ---- the components
-pub quotient_fits : (f : Option Span) (x : ℤ) (v : ℕ) → (1 ≤ v → is_some f ≡ true) → v ≤ 9_000_000_000 → Lies f x v → OnSome (LiesWithin f) (quotient x v)
+pub quotient_fits : (f : Option Span) (x : ℤ) (v : ℕ) → (1 ≤ v → is_some f ≡ true) → v ≤ MOST_DENOMINATOR → Lies f x v → OnSome (LiesWithin f) (quotient x v)
 quotient_fits f x v some few l =
     cond_both (nat_lt 0 v) (Some (record { n = x; d = v })) None (OnSome (LiesWithin f))
-    (λ e. let k : 1 ≤ v = ltb-true 0 v e in record { formed = some k; divides = k; denominator_bounded = few; low = l.0; high = l.1 })
+    (λ e. let k : 1 ≤ v = ltb-true 0 v e in record { formed = some k; divides = k; bounded_denominator = few; low = l.0; high = l.1 })
     (λ e. tt)
 
 pub mean_fits : (s : Side) → Sound s → OnSome (LiesWithin s.formed) (weighted_mean s)
@@ -85,7 +86,7 @@ automatic_fits s h =
     (cycles_lies _ s.formed s.cycles.volume s.cycles.turnover s.cycles.span h.0)
 
 whole_fits : (f : Option Span) (p : Price) → Between f p.cents → LiesWithin f (exact_of_price p)
-whole_fits f p b = record { formed = b.0; divides = omega arith; denominator_bounded = omega arith; low = omega (arith, ints, b.1); high = omega (arith, ints, b.2) }
+whole_fits f p b = record { formed = b.0; divides = omega arith; bounded_denominator = omega arith; low = omega (arith, ints, b.1); high = omega (arith, ints, b.2) }
 
 price_fits : (f : Option Span) (o : Option Price) → (is_some o ≡ true → Between f (cents_of o)) → OnSome (LiesWithin f) (option_map exact_of_price o)
 price_fits f None h = tt

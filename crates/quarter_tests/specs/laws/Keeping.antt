@@ -20,14 +20,14 @@ price_within : (d : Direction) (s : Span) (m : Exact) (q : Price) → LiesWithin
 price_within Up s m q w h g = record {
   formed = refl;
   divides = omega arith;
-  denominator_bounded = omega arith;
+  bounded_denominator = omega arith;
   low = omega (arith, ints, cross s.lowest.cents m.n q.cents 1 m.d 1 w.divides (omega (arith, ints, w.low)) h);
   high = omega (arith, ints, g);
 }
 price_within Down s m q w h g = record {
   formed = refl;
   divides = omega arith;
-  denominator_bounded = omega arith;
+  bounded_denominator = omega arith;
   low = omega (arith, ints, g);
   high = omega (arith, ints, cross q.cents m.n s.highest.cents 1 m.d 1 w.divides h (omega (arith, ints, w.high)));
 }
