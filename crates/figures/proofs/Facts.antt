@@ -3,6 +3,8 @@ use mathlib.Core.Logic.{∥∥₁_elim}
 use Rattle.std.proofs.Common.{◌≡◌, ◌*◌, ◌≤◌, nat_abs, sym, subst}
 use Rattle.source.specs.declared.direction.Direction.{Direction}
 use Rattle.source.specs.declared.direction.Direction.TheVariants.{Up, Down}
+use Rattle.units.specs.declared.bounds.TheConstants.{MOST_CENTS}
+use Rattle.figures.specs.steps.Bounds.{most_volume}
 use Rattle.figures.specs.Components.{side_in}
 use Rattle.figures.specs.declared.quarter_figures.Figures.{Figures}
 use Rattle.figures.specs.declared.side.Side.{Side}
@@ -16,16 +18,16 @@ sound_in f Down = ∥∥₁_elim f.given (sound_prop f.down) (λ p. subst Sound 
 
 -- the sizes of the parts
 pub record Sizes (s : Side) : Type 0 where
-  pub cycles : s.cycles.volume ≤ 2_250_000_000
-  pub turnover : nat_abs s.cycles.turnover ≤ 9_999_900 * s.cycles.volume
-  pub scheduled : s.scheduled.volume ≤ 2_250_000_000
-  pub above : s.direct_up.volume ≤ 2_250_000_000
-  pub below : s.direct_down.volume ≤ 2_250_000_000
+  pub cycles : s.cycles.volume ≤ most_volume
+  pub turnover : nat_abs s.cycles.turnover ≤ MOST_CENTS * s.cycles.volume
+  pub scheduled : s.scheduled.volume ≤ most_volume
+  pub above : s.direct_up.volume ≤ most_volume
+  pub below : s.direct_down.volume ≤ most_volume
 
 pub sizes_of : (s : Side) → Sound s → Sizes s
 sizes_of s h = record {
   cycles = h.0.0;
-  turnover = turnover_within 2_250_000_000 s.formed s.cycles.volume s.cycles.turnover s.cycles.span h.0;
+  turnover = turnover_within most_volume s.formed s.cycles.volume s.cycles.turnover s.cycles.span h.0;
   scheduled = h.1.0;
   above = h.2.0;
   below = h.3.0;

@@ -9,6 +9,7 @@ use Rattle.source.specs.Slots.{Slot}
 use Rattle.source.specs.declared.direction.Direction.{Direction}
 use Rattle.source.specs.declared.slot.Reading.{Reading}
 use Rattle.units.specs.declared.price.Price.{Price}
+use Rattle.units.specs.declared.bounds.TheConstants.{MOST_KW}
 use Rattle.figures.specs.Components.{cents_of}
 use Rattle.figures.specs.Counting.{activation, counted_of, demand_in, formed_of}
 use Rattle.figures.specs.Sides.{Slots, formed_to, totals_to, totals_with, manual_at, side_of}
@@ -22,12 +23,12 @@ use Rattle.figures.proofs.Sound.{Between, CyclesAre, CyclesSound, ManualSound, S
 -- an activation at the weight w has a volume and is at the price formed
 abbrev pub Proper : ℕ → Option Price → Option Activation → Type 0
 Proper w p None = Unit {0}
-Proper w p (Some a) = (1 ≤ a.volume) × (a.volume ≤ 10_000_000 * w) × (p ≡ Some a.price)
+Proper w p (Some a) = (1 ≤ a.volume) × (a.volume ≤ MOST_KW * w) × (p ≡ Some a.price)
 
-activation_proper : (w n : ℕ) (p : Option Price) → 1 ≤ w → n ≤ 10_000_000 → Proper w p (activation w n p)
-activation_proper w n p some h = grind (arith, mul-pos, mul-le-mul_left {m = n} {n = 10_000_000} w)
+activation_proper : (w n : ℕ) (p : Option Price) → 1 ≤ w → n ≤ MOST_KW → Proper w p (activation w n p)
+activation_proper w n p some h = grind (arith, mul-pos, mul-le-mul_left {m = n} {n = MOST_KW} w)
 
-pub demand_within : (d : Direction) (r : Reading) → demand_in d r ≤ 10_000_000
+pub demand_within : (d : Direction) (r : Reading) → demand_in d r ≤ MOST_KW
 demand_within d r = grind (arith, ints, r.demand.bounded)
 
 pub counted_proper : (d : Direction) (w : ℕ) (s : Slot) → 1 ≤ w → Proper w (formed_of d s) (counted_of d w s)
@@ -66,23 +67,23 @@ under : (v a : ℕ) (x p g m : ℤ) → g ≤ℤ m → p ≤ℤ m → x ≤ℤ (
 under v a x p g m gm pm h = omega (arith, ints, scaled g m v gm, scaled p m a pm)
 
 -- one more activation, at a price that is formed with it
-more_sound : (most w v b : ℕ) (x : ℤ) (o f : Option Span) (p : Price) → b ≤ 10_000_000 * w → 1 ≤ b → CyclesAre most f v x o
-    → CyclesAre (most + 10_000_000 * w) (Some (widened p f)) (v + b) (x +ℤ (pos b *ℤ p.cents)) (Some (widened p o))
+more_sound : (most w v b : ℕ) (x : ℤ) (o f : Option Span) (p : Price) → b ≤ MOST_KW * w → 1 ≤ b → CyclesAre most f v x o
+    → CyclesAre (most + MOST_KW * w) (Some (widened p f)) (v + b) (x +ℤ (pos b *ℤ p.cents)) (Some (widened p o))
 more_sound most w zero b x None f p h some s = grind (arith, ints)
 more_sound most w (suc v) b x None f p h some s = grind arith
 more_sound most w v b x (Some o) f p h some s = grind (arith, ints, above v b x p.cents o.lowest.cents (lesser p o.lowest).cents, under v b x p.cents o.highest.cents (greater p o.highest).cents)
 
 -- one more slot, of the weight w
 slot_sound : (most w : ℕ) (f : Option Span) (t : Totals) (o : Option Price) (a : Option Activation) → Proper w o a
-    → CyclesSound most f t → CyclesSound (most + 10_000_000 * w) (span_with o f) (totals_with a t)
+    → CyclesSound most f t → CyclesSound (most + MOST_KW * w) (span_with o f) (totals_with a t)
 slot_sound most w f t o None proper s =
     (omega (arith, s.0), s.1, λ e. let k = s.2 e in (between_noted o f _ k.0, between_noted o f _ k.1), s.3, s.4)
 slot_sound most w f t o (Some a) proper s = grind (arith, more_sound most w t.volume a.volume t.turnover t.span f a.price)
 
-pub cycles_sound : (d : Direction) (m : Slots) (n : ℕ) → n ≤ 225 → CyclesSound (10_000_000 * n) (formed_to d m n) (totals_to d m n)
+pub cycles_sound : (d : Direction) (m : Slots) (n : ℕ) → n ≤ 225 → CyclesSound (MOST_KW * n) (formed_to d m n) (totals_to d m n)
 unfolding totals_to formed_to
 cycles_sound d m zero h = grind (arith, ints)
-cycles_sound d m (suc k) h = grind (arith, weight_cycle k, cycles_sound d m k, counted_proper d (weight k) (m k), slot_sound (10_000_000 * k) (weight k) (formed_to d m k) (totals_to d m k))
+cycles_sound d m (suc k) h = grind (arith, weight_cycle k, cycles_sound d m k, counted_proper d (weight k) (m k), slot_sound (MOST_KW * k) (weight k) (formed_to d m k) (totals_to d m k))
 
 -- ---- a manual slot
 between_formed : (d : Direction) (m : Slots) (k : ℕ) → k < 228 → (p : Price) → formed_of d (m k) ≡ Some p → Between (formed_to d m 228) p.cents

@@ -1,5 +1,6 @@
 -- Products of a natural and a signed number.
 use Rattle.std.proofs.Common.{◌≡◌, ℕ, ◌*◌, ◌≤◌, ℤ, pos, negsuc, ◌+ℤ◌, ◌*ℤ◌, nat_abs, ap, ◌∙◌, mul-le-mul_left, arith, w64, to_z, of_z}
+use Rattle.units.specs.declared.bounds.TheConstants.{MOST_CENTS}
 use Rattle.figures.specs.Components.{manual_turnover}
 use Rattle.figures.specs.declared.side.Manual.{Manual}
 use Rattle.figures.specs.declared.tally.DirectionTally.{DirectionTally}
@@ -22,5 +23,5 @@ pub tally_same : (v w : ℕ) (x y : ℤ) (a b c d l h : Price) → v ≡ w → x
 tally_same v w x y a b c d l h e f g k =
     ap (λ z. tally z x a b l h) e ∙ ap (λ z. tally w z a b l h) f ∙ ap (λ z. tally w y z b l h) g ∙ ap (λ z. tally w y c z l h) k
 
-pub manual_turnover_within : (m : Manual) → nat_abs (manual_turnover m) ≤ 9_999_900 * m.volume
+pub manual_turnover_within : (m : Manual) → nat_abs (manual_turnover m) ≤ MOST_CENTS * m.volume
 manual_turnover_within m = grind (arith, ints, product_within)

@@ -1,6 +1,7 @@
 -- What holds of the figures of a direction, whatever slots give them.
 use Rattle.std.proofs.Common.{◌≡◌, ℕ, ◌≤◌, true, ℤ, pos, ◌*ℤ◌, ◌≤ℤ◌, is_some, Option}
 use denote.Struct.Props.{props}
+use Rattle.figures.specs.steps.Bounds.{most_volume}
 use Rattle.figures.specs.Spans.{lowest_cents, highest_cents}
 use Rattle.figures.specs.Components.{cents_of}
 use Rattle.figures.specs.declared.side.Manual.{Manual}
@@ -24,11 +25,11 @@ CyclesSound most f c = CyclesAre most f c.volume c.turnover c.span
 
 -- a manual slot of the greatest demand; where it counts it has a price, and a price is formed
 abbrev pub ManualSound : Option Span → Manual → Type 0
-ManualSound f m = (m.volume ≤ 2_250_000_000) × (1 ≤ m.volume → is_some m.price ≡ true) × (is_some m.price ≡ true → Between f (cents_of m.price))
+ManualSound f m = (m.volume ≤ most_volume) × (1 ≤ m.volume → is_some m.price ≡ true) × (is_some m.price ≡ true → Between f (cents_of m.price))
 
 abbrev pub Sound : Side → Type 0
 Sound s =
-    CyclesSound 2_250_000_000 s.formed s.cycles × ManualSound s.formed s.scheduled
+    CyclesSound most_volume s.formed s.cycles × ManualSound s.formed s.scheduled
     × ManualSound s.formed s.direct_up × ManualSound s.formed s.direct_down
 
 pub sound_prop : (s : Side) → IsProp (Sound s)

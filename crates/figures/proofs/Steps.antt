@@ -9,6 +9,8 @@ use Rattle.units.proofs.Made.{price_same}
 use Rattle.units.specs.Quantities.{lowest_price, highest_price}
 use Rattle.units.specs.declared.price.Price.{Price}
 use Rattle.units.specs.declared.zone_net.ZoneNet.{ZoneNet}
+use Rattle.units.specs.declared.bounds.TheConstants.{MOST_CENTS}
+use Rattle.figures.specs.steps.Bounds.{most_net, most_volume}
 use Rattle.figures.specs.Counting.{counted_of, formed_of, reported}
 use Rattle.figures.specs.Sides.{SourceGives, ReportedTo, Slots, net_to, formed_to, totals_to, totals_with, manual_at}
 use Rattle.figures.specs.steps.Gathering.{side_from}
@@ -119,25 +121,25 @@ module _ (m : Slots) (k : ℕ) (w : Weighed) (is : Is m k w) where
   is_reported = grind arith
 
 -- ---- room
-pub net_within : (m : Slots) (n : ℕ) → n ≤ 228 → nat_abs (net_to m n) ≤ 2_250_000_000 * n
+pub net_within : (m : Slots) (n : ℕ) → n ≤ 228 → nat_abs (net_to m n) ≤ most_volume * n
 unfolding net_to
 net_within m zero h = omega arith
 net_within m (suc k) h =
     let w = weight_bounds k h in
     grind (arith, ints, net_within m k (omega arith), product_within)
 
-low_within : (s : Option Span) → (nat_abs (lowest_cents s) ≤ 9_999_900) × (nat_abs (highest_cents s) ≤ 9_999_900)
+low_within : (s : Option Span) → (nat_abs (lowest_cents s) ≤ MOST_CENTS) × (nat_abs (highest_cents s) ≤ MOST_CENTS)
 low_within s = grind (arith, ints)
 
-pub turnover_within : (most : ℕ) (f : Option Span) (v : ℕ) (x : ℤ) (o : Option Span) → CyclesAre most f v x o → nat_abs x ≤ 9_999_900 * v
-turnover_within most f v x o s = grind (arith, ints, low_within o, product_within v 9_999_900 (lowest_cents o), product_within v 9_999_900 (highest_cents o))
+pub turnover_within : (most : ℕ) (f : Option Span) (v : ℕ) (x : ℤ) (o : Option Span) → CyclesAre most f v x o → nat_abs x ≤ MOST_CENTS * v
+turnover_within most f v x o s = grind (arith, ints, low_within o, product_within v MOST_CENTS (lowest_cents o), product_within v MOST_CENTS (highest_cents o))
 
 pub cycles_room : (d : Direction) (m : Slots) (n : ℕ) (t : DirectionTally) (f : Option Span) → n ≤ 225 → t ≡ tally_of (totals_to d m n) f → Room t
 cycles_room d m n t f h e =
     let s = cycles_sound d m n h in
     grind (arith, turnover_within _ _ (totals_to d m n).volume (totals_to d m n).turnover (totals_to d m n).span s)
 
-pub net_room : (m : Slots) (n c : ℕ) (t : Tally) → n ≤ 228 → Tallied m n c t → nat_abs t.net ≤ 513_000_000_000
+pub net_room : (m : Slots) (n c : ℕ) (t : Tally) → n ≤ 228 → Tallied m n c t → nat_abs t.net ≤ most_net
 net_room m n c t h s = grind (arith, net_within m n)
 
 -- the whole quarter, of its cycles and its three manual slots
@@ -156,10 +158,10 @@ module _ (M : Meaning) (t a b e : Tally) (s : ManualSlots) (cycles : Tallied M.s
   all_reported : ReportedTo M.slots 228
   all_reported k h = grind arith
 
-  pub first_room : nat_abs a.net ≤ 513_000_000_000
+  pub first_room : nat_abs a.net ≤ most_net
   first_room = net_room M.slots 226 225 a (omega arith) first_tallied
 
-  pub second_room : nat_abs b.net ≤ 513_000_000_000
+  pub second_room : nat_abs b.net ≤ most_net
   second_room = net_room M.slots 227 225 b (omega arith) second_tallied
 
   pub quarter_given : (net : ℤ) (zone : ZoneNet) (o : Option Price) (above below : Side) → net ≡ e.net → zone ≡ M.zone → o ≡ M.avoided

@@ -99,6 +99,7 @@ impl Side {
 }
 
 impl Figures {
+    /// The figures of a direction.
     pub fn side(&self, direction: Direction) -> Side
         ensures { result ≡ side_in direction self.now }
     {

@@ -4,6 +4,7 @@ ghost use Rattle.figures.specs.steps.Spans.{span_between};
 
 use units::Price;
 
+/// The lowest and the highest of some prices, of which there is at least one.
 #[derive(Clone, Copy)]
 pub struct Span {
     pub lowest: Price,

@@ -46,14 +46,14 @@ impl Weighed {
 
     fn energy(self) -> i64
         ensures weight_times_demand { result ≡ pos self.weight *ℤ self.reading.demand.kw }
-        ensures small { unsigned_abs result ≤ most_volume }
+        ensures bounded { unsigned_abs result ≤ most_volume }
     {
         self.weight as i64 * self.reading.demand.kw()
     }
 
     fn activation(self, direction: Direction) -> Option<Activation>
         ensures what_counts { result ≡ counted direction self.weight self.reading }
-        ensures small { volume_of result ≤ most_volume }
+        ensures bounded { volume_of result ≤ most_volume }
     {
         let size = self.demand_in(direction);
         let volume = self.weight * size;
@@ -118,7 +118,7 @@ impl DirectionTally {
     // One cycle more, where it counts.
     fn counting(self, activation: Option<Activation>) -> DirectionTally
         requires room { Room self }
-        requires small { volume_of activation ≤ most_volume }
+        requires bounded { volume_of activation ≤ most_volume }
         ensures { result ≡ counting_in activation self }
     {
         let Some(added) = activation else {

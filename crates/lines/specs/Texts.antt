@@ -1,4 +1,4 @@
--- The text of one printed line: fields one space apart, ended by byte 0A.
+-- The text of one printed line.
 use Rattle.std.specs.Prelude.{ℕ, List, [], ◌∷◌, ◌++◌, ℤ, Ok, Err, decimal, Result}
 use Rattle.pricing.specs.Quotes.{letter}
 use Rattle.pricing.specs.Refusals.{quote_number}
@@ -8,19 +8,31 @@ use Rattle.pricing.specs.declared.quote.QuoteDirection.{QuoteDirection}
 use Rattle.units.specs.Text.{euros}
 use Rattle.lines.specs.declared.line.Line.{Line}
 
--- code, letter, euros
+-- the byte that stands between two fields of a line
+abbrev pub space : ℕ
+space = 0x20
+
+-- the byte that ends a line
+abbrev pub line_end : ℕ
+line_end = 0x0A
+
+-- the byte that marks a refusal, !
+abbrev pub refusal_mark : ℕ
+refusal_mark = 0x21
+
+-- the line of a quote: the code, the letter of the direction, euros per MWh
 abbrev pub quote_text : ℕ → QuoteDirection → ℤ → List ℕ
-quote_text code d cents = decimal code ++ (0x20 ∷ letter d ∷ 0x20 ∷ (euros cents ++ (0x0A ∷ [])))
+quote_text code d cents = decimal code ++ (space ∷ letter d ∷ space ∷ (euros cents ++ (line_end ∷ [])))
 
--- code, !, number
+-- the line of a refusal: the code, !, the number of the refusal
 abbrev pub refusal_text : ℕ → ℕ → List ℕ
-refusal_text code number = decimal code ++ (0x20 ∷ 0x21 ∷ 0x20 ∷ (decimal number ++ (0x0A ∷ [])))
+refusal_text code number = decimal code ++ (space ∷ refusal_mark ∷ space ∷ (decimal number ++ (line_end ∷ [])))
 
--- the line of a quote under a code, or of its refusal
+-- the line of what is answered under a code
 abbrev pub answer_text : ℕ → Result Quote QuoteFault → List ℕ
 answer_text code (Ok q) = quote_text code q.direction q.price.cents
 answer_text code (Err e) = refusal_text code (quote_number e)
 
--- one line
+-- what a line prints
 abbrev pub line_text : Line → List ℕ
 line_text l = answer_text l.code l.answer

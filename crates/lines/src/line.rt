@@ -6,6 +6,7 @@ use pricing::{Quote, QuoteFault};
 use std::fmt;
 use units::{Amount, Refusal};
 
+/// A rulebook's code, and what is answered under it.
 #[derive(Clone, Copy)]
 pub struct Line {
     pub code: u16,

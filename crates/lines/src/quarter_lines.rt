@@ -5,7 +5,10 @@ ghost use Rattle.lines.specs.Quarters.{five_text, lines_text};
 ghost use Rattle.lines.specs.declared.quarter_lines.QuarterLines.{QuarterLines};
 
 use crate::line::Line;
-use pricing::{CombinedAll, CombinedAutomatic, Finnish, FiveQuotes, MaxMin, Rulebook, WeightedAverage, five_quotes};
+use pricing::{
+    CombinedAll, CombinedAutomatic, Finnish, FiveQuotes, MaxMin, Rulebook, WeightedAverage,
+    five_quotes,
+};
 use sheet::{Sheet, SheetFault};
 use std::fmt;
 

@@ -14,7 +14,7 @@ use Rattle.pricing.specs.declared.quote.Quote.{Quote}
 use Rattle.pricing.specs.declared.quote.QuoteDirection.{QuoteDirection}
 use Rattle.pricing.specs.declared.quote.QuoteDirection.TheVariants.{Up, Down, Avoided}
 
--- an up price of p cents is at most half a cent below S / V, a down price at most half a cent above
+-- an up price of p cents is at most half a cent below S / V, so 2 S ≤ (2 p + 1) V; a down price is at most half a cent above it
 abbrev pub HalfCentFromMean : Direction → Side → ℤ → Type 0
 HalfCentFromMean dir.Up s p = (turnover s *ℤ pos 2) ≤ℤ (((p *ℤ pos 2) +ℤ pos 1) *ℤ pos (volume s))
 HalfCentFromMean dir.Down s p = (((p *ℤ pos 2) -ℤ pos 1) *ℤ pos (volume s)) ≤ℤ (turnover s *ℤ pos 2)

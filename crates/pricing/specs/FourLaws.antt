@@ -20,7 +20,7 @@ IsInNetsDirection z avoided = Unit {0}
 IsInNetsDirection z (directed Up q) = pos 0 <ℤ z
 IsInNetsDirection z (directed Down q) = z <ℤ pos 0
 
--- 2: where any slot counts in the direction of the deciding net, of a source that gives the figures, the result is not avoided
+-- 2: where any slot counts in the direction of the deciding net, of whatever source gives the figures, the result is not avoided
 abbrev pub IsNotAvoidedWhereCounting : ℤ → Figures → Outcome → Type 0
 IsNotAvoidedWhereCounting z f o = (m : Meaning) (d : Direction) → AreFiguresOf m f → toward z ≡ Some d → SomeCounts d m.slots → o ≢ avoided
 

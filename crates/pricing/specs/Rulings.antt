@@ -32,26 +32,26 @@ extreme_counting d s = extreme d (cycles_extreme d s) (manual_extreme counting_p
 abbrev pub finnish_price : PriceRule
 finnish_price d s = if manual_counts s then weighted_mean s else extreme d (automatic_mean s) (manual_extreme formed_price d s)
 
--- the price in the direction of the deciding net
+-- what a rule of price decides in the direction of the deciding net
 abbrev pub by_net : Net → PriceRule → Figures → Outcome
 by_net net price f = decided (net_of net f) (λ d. price d (side_in d f))
 
--- code 1, by the local net as codes 2 to 4
+-- what code 1 decides, by the local net
 abbrev pub weighted_average : Figures → Outcome
 weighted_average f = by_net Local mean_price f
 
--- code 2
+-- what code 2 decides, by the local net
 abbrev pub combined_automatic : Figures → Outcome
 combined_automatic f = by_net Local automatic_or_manual f
 
--- code 3
+-- what code 3 decides, by the local net
 abbrev pub combined_all : Figures → Outcome
 combined_all f = by_net Local mean_or_manual f
 
--- code 4
+-- what code 4 decides, by the local net
 abbrev pub max_min : Figures → Outcome
 max_min f = by_net Local extreme_counting f
 
--- code 5, by the zone's net
+-- what code 5 decides, by the zone's net
 abbrev pub finnish : Figures → Outcome
 finnish f = by_net Zone finnish_price f

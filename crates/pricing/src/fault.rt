@@ -7,6 +7,7 @@ use figures::UnreportedSlot;
 use source::SLOTS;
 use units::Refusal;
 
+/// The refusal of a quote.
 #[derive(Clone, Copy, Debug)]
 pub enum QuoteFault {
     /// A slot is not reported.

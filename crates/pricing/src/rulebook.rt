@@ -11,8 +11,10 @@ use figures::Figures;
 /// Whatever means one result for each set of figures and keeps the four laws, under a fixed code and by a fixed net.
 /// What it means belongs to the value, so that a rulebook may hold a price or another rulebook.
 pub trait Rulebook {
+    /// The number that names the rulebook.
     const CODE: u16;
 
+    /// The net whose sign decides the direction.
     const NET: Net;
 
     ghost CODE: { ℕ };
@@ -21,6 +23,7 @@ pub trait Rulebook {
 
     ghost ruling: { Self → Figures → Outcome };
 
+    /// The result for the figures.
     fn decide(&self, figures: &Figures) -> Ruling
         ensures { outcome_of result ≡ ruling self.now figures.now };
 

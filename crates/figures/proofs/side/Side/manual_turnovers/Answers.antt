@@ -1,9 +1,11 @@
 use borrow.Author.Differences.{ints}
 use Rattle.std.proofs.Common.{ℕ, ◌*◌, ◌≤◌, ℤ, ◌+ℤ◌, nat_abs, arith, w64, SFits, rules}
 use Rattle.std.proofs.lemmas.Int.{to_z-of_z}
+use Rattle.units.specs.declared.bounds.TheConstants.{MOST_CENTS}
+use Rattle.figures.specs.steps.Bounds.{most_volume}
 use Rattle.figures.proofs.side.Side.manual_turnovers.Goals as goal
 
-fits : (x y z : ℤ) (u v w : ℕ) → u ≤ 2_250_000_000 → v ≤ 2_250_000_000 → w ≤ 2_250_000_000 → nat_abs x ≤ 9_999_900 * u → nat_abs y ≤ 9_999_900 * v → nat_abs z ≤ 9_999_900 * w
+fits : (x y z : ℤ) (u v w : ℕ) → u ≤ most_volume → v ≤ most_volume → w ≤ most_volume → nat_abs x ≤ MOST_CENTS * u → nat_abs y ≤ MOST_CENTS * v → nat_abs z ≤ MOST_CENTS * w
     → SFits w64 (x +ℤ y) × SFits w64 ((x +ℤ y) +ℤ z)
 fits x y z u v w a b c e f g = (omega (arith, ints), omega (arith, ints))
 

@@ -4,5 +4,5 @@ use Rattle.figures.proofs.tally.Tally.noting.Goals as goal
 
 pub returns : goal.returns
 returns c =
-    let e = sum_kept c.args.self.net c.energy.result c.energy.result refl (omega (arith, c.requires)) (omega (arith, c.energy.ensures.small)) ∙ ap (λ z. c.args.self.net +ℤ z) c.energy.ensures.weight_times_demand in
+    let e = sum_kept c.args.self.net c.energy.result c.energy.result refl (omega (arith, c.requires)) (omega (arith, c.energy.ensures.bounded)) ∙ ap (λ z. c.args.self.net +ℤ z) c.energy.ensures.weight_times_demand in
     λ i. record { net = e i; up = c.noting.ensures i; down = c.noting-2.ensures i }
