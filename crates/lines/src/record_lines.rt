@@ -1,7 +1,7 @@
 // The lines of a sheet's records.
 ghost use Rattle.std.specs.Prelude.{Some};
 ghost use Rattle.lines.specs.Records.{body_text, handed_text, hex_text, records_text};
-ghost use Rattle.sheet.specs.Readers.{shown};
+ghost use Rattle.sheet.specs.Readers.{record_or_fault};
 
 use sheet::{Reader, Record, SheetFault};
 use std::fmt;
@@ -48,7 +48,7 @@ pub struct RecordLine<'a> {
 }
 
 impl fmt::Display for RecordLine<'_> {
-    ghost output = { λ x. Some (handed_text x.slot (shown x.handed)) };
+    ghost output = { λ x. Some (handed_text x.slot (record_or_fault x.handed)) };
 
     fn fmt<W: fmt::Write>(&self, f: &mut fmt::Formatter<W>) -> fmt::Result {
         match self.handed {

@@ -3,6 +3,7 @@ use Rattle.std.proofs.Common.{◌≡◌, ℕ, zero, suc, ◌+◌, ◌<◌, ◌�
 use lib.ListN.{length-replicate}
 use Rattle.std.proofs.lemmas.List.{get_or-replicate, get_or_past}
 use Rattle.std.proofs.lemmas.Bool.Decides.{nat_tests}
+use Rattle.source.specs.declared.slot.TheConstants.{SLOTS}
 use Rattle.source.specs.Slots.{Slot}
 use Rattle.units.specs.declared.price.Price.{Price}
 use Rattle.sheet.specs.declared.fault.RecordFault.{RecordFault}
@@ -11,7 +12,7 @@ use Rattle.sheet.specs.declared.head.Head.{Head}
 use Rattle.sheet.specs.Faults.{record_number, record_spot, fault_number, fault_place, fault_slot}
 use Rattle.sheet.specs.Heads.{head_of, opens, opening, avoided_at}
 use Rattle.sheet.specs.Laws.{Placed, Silent}
-use Rattle.sheet.specs.Rows.{row, Row}
+use Rattle.sheet.specs.Slots.{slots_told, SlotsTold}
 use Rattle.sheet.specs.Sheets.{slots_from, sheet_slots, first_fault}
 use Rattle.sheet.proofs.Places.{Lies, fault_after, quantity_fits, slots_after, told_fits}
 
@@ -24,7 +25,7 @@ Ended s i vs (Ok at) = at ≤ length s
 Ended s i vs (Err f) = (i ≤ (record_spot f).slot) × Lies (record_spot f).slot (length s) (record_number f) (record_spot f)
     × ((k : ℕ) → (record_spot f).slot ≤ i + k → get_or vs k None ≡ None)
 
-record Runs (n : ℕ) (s : List ℕ) (i : ℕ) (r : Row) : Type 0 where
+record Runs (n : ℕ) (s : List ℕ) (i : ℕ) (r : SlotsTold) : Type 0 where
   counted : length r.0 ≡ n
   ended : Ended s i r.0 r.1
 
@@ -33,8 +34,8 @@ later : (slot i : ℕ) (v : Slot) (vs : List Slot) → i + 1 ≤ slot → ((k : 
 later slot i v vs l h zero e = absurd (omega arith)
 later slot i v vs l h (suc k) e = h k (omega arith)
 
-row_runs : (n : ℕ) (s : List ℕ) (i at : ℕ) → at ≤ length s → Runs n s i (row n s i at)
-unfolding row
+row_runs : (n : ℕ) (s : List ℕ) (i at : ℕ) → at ≤ length s → Runs n s i (slots_told n s i at)
+unfolding slots_told
 row_runs zero s i at h = grind arith
 row_runs (suc n) s i at h = grind (arith, told_fits, row_runs n s (i + 1), none_told, length-replicate {A = Slot}, length-drop {A = ℕ}, later)
 
@@ -70,13 +71,13 @@ head_good s = grind (arith, nat_tests, quantity_fits, opens_put 0 opening s, avo
 
 pub placed : (s : List ℕ) (f : SheetFault) → first_fault s ≡ Err f → Placed s f
 unfolding first_fault slots_from
-placed s f e = grind (arith, nat_tests, head_good s, row_runs 228 s 0)
+placed s f e = grind (arith, nat_tests, head_good s, row_runs SLOTS s 0)
 
 silent_after : (s : List ℕ) (x : Result Head SheetFault) → GoodHead s x → (f : SheetFault) → fault_after s x ≡ Err f
     → (k : ℕ) → fault_slot f ≤ k → get_or (slots_after s x) k None ≡ None
 unfolding slots_from
-silent_after s (Ok h) g f e k l = grind (arith, nat_tests, row_runs 228 s 0 h.end g, get_or_past)
-silent_after s (Err f) g z e k l = none_told 228 k
+silent_after s (Ok h) g f e k l = grind (arith, nat_tests, row_runs SLOTS s 0 h.end g, get_or_past)
+silent_after s (Err f) g z e k l = none_told SLOTS k
 
 pub silent : (s : List ℕ) (f : SheetFault) → first_fault s ≡ Err f → Silent s f
 unfolding first_fault sheet_slots

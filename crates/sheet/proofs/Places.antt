@@ -5,6 +5,7 @@ use Rattle.units.specs.Chains.{result_and_then, result_map_err}
 use Rattle.units.specs.declared.bounds.OutOfBounds.{OutOfBounds}
 use Rattle.units.specs.declared.demand.Demand.{Demand}
 use Rattle.units.specs.declared.price.Price.{Price}
+use Rattle.source.specs.declared.slot.TheConstants.{SLOTS}
 use Rattle.sheet.specs.declared.fault.NumberFault.{NumberFault}
 use Rattle.sheet.specs.declared.fault.NumberFault.TheVariants as nf
 use Rattle.sheet.specs.declared.fault.SheetFault.{SheetFault}
@@ -17,8 +18,8 @@ use Rattle.sheet.specs.Numbers.{Number, ahead, groups_fault, quantity}
 use Rattle.std.specs.Option.{option_map_or}
 use Rattle.std.specs.Result.{result_ok}
 use Rattle.source.specs.Slots.{Slot}
-use Rattle.sheet.specs.Sheets.{closed, slots_from}
-use Rattle.sheet.specs.Records.{pair, Told, slot_told, by_lead}
+use Rattle.sheet.specs.Sheets.{fault_of_slots, slots_from}
+use Rattle.sheet.specs.Records.{demand_and_price, SlotTold, slot_told, by_lead}
 
 -- groups take at least one byte, and no more than there are
 abbrev Long : List ℕ → Groups → Type 0
@@ -64,12 +65,12 @@ pub quantity_fits : {Q : Type 0} (made : ℤ → Result Q OutOfBounds) (p : Spot
 unfolding quantity
 quantity_fits made p s from h = judged_fits made p s from (groups (drop from s)) h (groups_long (drop from s))
 
-pair_fits : (p : Spot) (s : List ℕ) → Fits {X = Demand × Price × ℕ} (λ g. g.2) p s (pair p s)
-unfolding pair
+pair_fits : (p : Spot) (s : List ℕ) → Fits {X = Demand × Price × ℕ} (λ g. g.2) p s (demand_and_price p s)
+unfolding demand_and_price
 pair_fits p s = grind (arith, nat_tests, quantity_fits)
 
 -- what a record tells takes at least one of the len bytes from p on, and no more than there are
-abbrev pub FitsTold : Spot → ℕ → Told → Type 0
+abbrev pub FitsTold : Spot → ℕ → SlotTold → Type 0
 FitsTold p len (Ok g) = (1 ≤ g.1) × (g.1 ≤ len)
 FitsTold p len (Err f) = Lies p.slot (p.place + len) (record_number f) (record_spot f)
 
@@ -80,7 +81,7 @@ told_fits p (lead ∷ s) = grind (arith, nat_tests, quantity_fits, pair_fits)
 
 -- what is told of each slot, and the first fault, after a head or its fault
 abbrev pub slots_after : List ℕ → Result Head SheetFault → List Slot
-slots_after s x = option_map_or (λ h. (slots_from s h.end).0) (result_ok x) (replicate 228 None)
+slots_after s x = option_map_or (λ h. (slots_from s h.end).0) (result_ok x) (replicate SLOTS None)
 
 abbrev pub fault_after : List ℕ → Result Head SheetFault → Result (Unit {0}) SheetFault
-fault_after s x = result_and_then x (λ h. closed s (slots_from s h.end).1)
+fault_after s x = result_and_then x (λ h. fault_of_slots s (slots_from s h.end).1)

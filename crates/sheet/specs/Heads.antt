@@ -6,10 +6,11 @@ use Rattle.units.specs.Quantities.{price_of, zone_net_of}
 use Rattle.sheet.specs.declared.fault.SheetFault.{SheetFault}
 use Rattle.sheet.specs.declared.fault.SheetFault.TheVariants as sf
 use Rattle.sheet.specs.declared.fault.Spot.{Spot}
+use Rattle.sheet.specs.declared.fault.TheConstants.{HEAD}
 use Rattle.sheet.specs.declared.head.Head.{Head}
 use Rattle.sheet.specs.Numbers.{quantity, Number}
 
--- ISP1
+-- the bytes that open every sheet: ISP1
 abbrev pub opening : List ℕ
 opening = 0x49 ∷ 0x53 ∷ 0x50 ∷ 0x31 ∷ []
 
@@ -19,9 +20,9 @@ opens at [] s = Ok tt
 opens at (w ∷ want) [] = Err (sf.Ends at)
 opens at (w ∷ want) (b ∷ s) = if b == w then opens (at + 1) want s else Err (sf.Opening at)
 
--- the head goes by slot 228
+-- where the head begins: at the sheet's first byte, and in no slot, which is told by the number after the last slot's
 abbrev pub front : Spot
-front = record { place = 0; slot = 228 }
+front = record { place = 0; slot = HEAD }
 
 -- a fault in a number of the head is the sheet's
 abbrev pub in_head : {Q : Type 0} → Number Q → Result (Q × ℕ) SheetFault

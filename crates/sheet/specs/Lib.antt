@@ -1,10 +1,10 @@
-pub mod Faults
 pub mod Groups
 pub mod Numbers
-pub mod Heads
 pub mod Records
-pub mod Rows
+pub mod Heads
+pub mod Slots
 pub mod Sheets
+pub mod Faults
 pub mod Readers
 pub mod Laws
 pub mod Steps

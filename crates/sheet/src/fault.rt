@@ -161,7 +161,8 @@ impl Refusal for SheetFault {
 impl SheetFault {
     /// The slot in which the fault stands.
     pub fn slot(self) -> usize
-        ensures { result ≡ fault_slot self }
+        ensures slot { result ≡ fault_slot self }
+        ensures head_is_past_the_slots { HEAD ≡ SLOTS }
     {
         match self {
             SheetFault::Head(fault) => fault.spot().slot,

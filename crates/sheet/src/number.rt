@@ -1,4 +1,4 @@
-// The groups of a number, and its sign.
+// The groups of a number, of seven bits each, and its sign. 128 is 2 ^ 7, 16384 is 2 ^ 14 and 2097152 is 2 ^ 21.
 ghost use Rattle.std.specs.Prelude.{◌≡◌, ◌^◌, ◌<◌, ◌≤◌, length, IfOk};
 ghost use Rattle.sheet.specs.Groups.{groups, last, unfolded};
 

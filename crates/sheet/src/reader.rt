@@ -1,5 +1,6 @@
 // A reader of a sheet, which hands out its records one after another.
 ghost use Rattle.std.specs.Prelude.{◌≡◌, ◌+◌, ◌≤◌, IfOk, length};
+ghost use Rattle.source.specs.declared.slot.TheConstants.{SLOTS};
 
 use crate::fault::{SheetFault, Spot};
 use crate::head::Head;
@@ -14,18 +15,18 @@ pub struct Reader<'a> {
     at: usize,
     slot: usize,
     ghost inside: { at ≤ length sheet.now },
-    ghost counted: { slot ≤ 228 },
+    ghost counted: { slot ≤ SLOTS },
 }
 
 impl<'a> Reader<'a> {
     ghost use Rattle.sheet.specs.Laws.{ByRecords};
     ghost use Rattle.sheet.specs.Steps.{here};
-    ghost use Rattle.sheet.specs.Readers.{begun, handed, reading, record_bytes, records_left, seen, shown};
+    ghost use Rattle.sheet.specs.Readers.{left_or_fault, records_from, records_of_sheet, record_bytes, records_left, parts_of, record_or_fault};
 
     /// The records of a sheet of any bytes, from slot 0 on; or the first fault of its head.
-    #[tactic(auto, unfolding(crate::specs::Readers::reading))]
+    #[tactic(auto, unfolding(crate::specs::Readers::records_of_sheet))]
     pub fn of(sheet: &'a [u8]) -> Result<Reader<'a>, SheetFault>
-        ensures hands_out { begun result ≡ reading sheet.now }
+        ensures hands_out { left_or_fault result ≡ records_of_sheet sheet.now }
         ensures by_records { IfOk result (λ r. ByRecords sheet.now (records_left r)) }
     {
         let head = Head::read(sheet)?;
@@ -35,7 +36,7 @@ impl<'a> Reader<'a> {
     // The records after the head.
     pub(crate) fn after(sheet: &'a [u8], head: Head) -> Reader<'a>
         requires { head.end ≤ length sheet.now }
-        ensures { records_left result ≡ handed 228 sheet.now 0 head.end }
+        ensures { records_left result ≡ records_from SLOTS sheet.now 0 head.end }
     {
         Reader {
             sheet,
@@ -46,8 +47,8 @@ impl<'a> Reader<'a> {
 
     // The record at which the reader stands, or the fault there.
     fn record(&self) -> Result<Record<'a>, SheetFault>
-        ensures reads { shown result ≡ here self.now.sheet.now self.now.slot self.now.at }
-        ensures within { IfOk result (λ r. self.now.at + length (record_bytes (seen r)) ≤ length self.now.sheet.now) }
+        ensures reads { record_or_fault result ≡ here self.now.sheet.now self.now.slot self.now.at }
+        ensures within { IfOk result (λ r. self.now.at + length (record_bytes (parts_of r)) ≤ length self.now.sheet.now) }
     {
         let at = self.at;
         if self.slot == SLOTS {
@@ -66,11 +67,11 @@ impl<'a> Reader<'a> {
 
 impl<'a> Iterator for Reader<'a> {
     ghost use Rattle.std.specs.Iterator.{YieldsFirstBy, item_count};
-    ghost use Rattle.sheet.specs.Readers.{records_left, shown};
+    ghost use Rattle.sheet.specs.Readers.{records_left, record_or_fault};
 
     type Item = Result<Record<'a>, SheetFault>;
 
-    ghost next_gives = { YieldsFirstBy shown records_left };
+    ghost next_gives = { YieldsFirstBy record_or_fault records_left };
 
     ghost remaining = { item_count records_left };
 

@@ -1,7 +1,7 @@
 // A packed sheet as a price source.
 ghost use Rattle.std.specs.Prelude.{◌≡◌, ◌≤◌, None, Err, length, replicate};
 ghost use Rattle.sheet.specs.Laws.{Placed, Silent};
-ghost use Rattle.sheet.specs.Sheets.{closed, first_fault, sheet_avoided, sheet_meaning, sheet_net, sheet_slots, slots_from};
+ghost use Rattle.sheet.specs.Sheets.{fault_of_slots, first_fault, sheet_avoided, sheet_meaning, sheet_net, sheet_slots, slots_from};
 
 use crate::fault::SheetFault;
 use crate::head::Head;
@@ -24,12 +24,12 @@ pub struct Sheet<'a> {
 }
 
 // Tells the slots by the records after the head, up to the first fault; from there on they stay unreported.
-#[tactic(auto, using(crate::proofs::Telling::all_filled, crate::proofs::Telling::all_left, crate::proofs::Telling::slots_told))]
+#[tactic(auto, using(crate::proofs::Telling::all_filled, crate::proofs::Telling::all_left, crate::proofs::Telling::sheet_told))]
 fn tell(bytes: &[u8], head: Head, slots: &mut [Slot]) -> Result<(), SheetFault>
     requires inside { head.end ≤ length bytes.now }
-    requires unreported { slots.old ≡ replicate 228 None }
+    requires unreported { slots.old ≡ replicate SLOTS None }
     ensures tells { slots.new ≡ (slots_from bytes.now head.end).0 }
-    ensures refuses { result ≡ closed bytes.now (slots_from bytes.now head.end).1 }
+    ensures refuses { result ≡ fault_of_slots bytes.now (slots_from bytes.now head.end).1 }
 {
     let mut slot = 0;
     for record in Reader::after(bytes, head) {

@@ -1,8 +1,8 @@
 // The record of one slot.
 ghost use Rattle.std.specs.Prelude.{◌≡◌, ◌+◌, ◌≤◌, ◌∷◌, length, IfOk};
-ghost use Rattle.sheet.specs.Records.{by_lead, pair};
-ghost use Rattle.sheet.specs.Readers.{record_at, record_bytes, seen, viewed};
-ghost use Rattle.sheet.specs.Steps.{record_seen};
+ghost use Rattle.sheet.specs.Records.{by_lead, demand_and_price};
+ghost use Rattle.sheet.specs.Readers.{record_at, record_bytes, parts_of, record_telling};
+ghost use Rattle.sheet.specs.Steps.{parts_read};
 
 use crate::fault::{NumberFault, RecordFault, Spot};
 use crate::part::Part;
@@ -45,7 +45,7 @@ pub enum Record<'a> {
 impl<'a> Record<'a> {
     /// What the record tells of its slot.
     pub fn slot(self) -> Slot
-        ensures { result ≡ (seen self.entry).tells }
+        ensures { result ≡ (parts_of self.entry).tells }
     {
         let (demand, up, down) = match self {
             Record::Unreported { .. } => return None,
@@ -64,7 +64,7 @@ impl<'a> Record<'a> {
 
     /// The byte that says which kind of record it is.
     pub fn lead(self) -> u8
-        ensures { result ≡ (seen self.entry).lead }
+        ensures { result ≡ (parts_of self.entry).lead }
     {
         match self {
             Record::Unreported { .. } => 0,
@@ -77,7 +77,7 @@ impl<'a> Record<'a> {
 
     /// The bytes after the lead byte.
     pub fn body(self) -> &'a [u8]
-        ensures { result.now ≡ (seen self.entry).body }
+        ensures { result.now ≡ (parts_of self.entry).body }
     {
         match self {
             Record::Unreported { .. } => &[],
@@ -90,7 +90,7 @@ impl<'a> Record<'a> {
 
     /// The place of the lead byte among the sheet's bytes.
     pub fn place(self) -> usize
-        ensures { result ≡ (seen self.entry).place }
+        ensures { result ≡ (parts_of self.entry).place }
     {
         match self {
             Record::Unreported { place }
@@ -105,9 +105,9 @@ impl<'a> Record<'a> {
 impl<'a> Part<'a> {
     // A demand and the price after it, and where they end.
     #[inline(always)]
-    #[tactic(auto, unfolding(crate::specs::Records::pair))]
-    fn pair(&self) -> Result<(Demand, Price, usize), NumberFault>
-        ensures reads { result ≡ pair self.now.start self.now.bytes.now }
+    #[tactic(auto, unfolding(crate::specs::Records::demand_and_price))]
+    fn demand_and_price(&self) -> Result<(Demand, Price, usize), NumberFault>
+        ensures reads { result ≡ demand_and_price self.now.start self.now.bytes.now }
         ensures within { IfOk result (λ p. p.2 ≤ length self.now.bytes.now) }
     {
         let (demand, n) = self.quantity(0)?;
@@ -119,10 +119,10 @@ impl<'a> Part<'a> {
     #[inline(always)]
     #[tactic(auto, unfolding(crate::specs::Records::by_lead))]
     fn both(&self, at: Spot) -> Result<Record<'a>, RecordFault>
-        ensures reads { record_seen result ≡ viewed at (4 ∷ self.now.bytes.now) (by_lead at self.now.start 4 self.now.bytes.now) }
-        ensures within { IfOk result (λ r. length (record_bytes (seen r)) ≤ 1 + length self.now.bytes.now) }
+        ensures reads { parts_read result ≡ record_telling at (4 ∷ self.now.bytes.now) (by_lead at self.now.start 4 self.now.bytes.now) }
+        ensures within { IfOk result (λ r. length (record_bytes (parts_of r)) ≤ 1 + length self.now.bytes.now) }
     {
-        let (demand, up, n) = self.pair()?;
+        let (demand, up, n) = self.demand_and_price()?;
         let (down, end) = self.quantity(n)?;
         Ok(Record::Both {
             demand,
@@ -137,8 +137,8 @@ impl<'a> Part<'a> {
     #[inline(always)]
     #[tactic(auto, unfolding(crate::specs::Records::by_lead))]
     fn led_by(&self, lead: u8, at: Spot) -> Result<Record<'a>, RecordFault>
-        ensures reads { record_seen result ≡ viewed at (lead ∷ self.now.bytes.now) (by_lead at self.now.start lead self.now.bytes.now) }
-        ensures within { IfOk result (λ r. length (record_bytes (seen r)) ≤ 1 + length self.now.bytes.now) }
+        ensures reads { parts_read result ≡ record_telling at (lead ∷ self.now.bytes.now) (by_lead at self.now.start lead self.now.bytes.now) }
+        ensures within { IfOk result (λ r. length (record_bytes (parts_of r)) ≤ 1 + length self.now.bytes.now) }
     {
         let place = at.place;
         match lead {
@@ -152,7 +152,7 @@ impl<'a> Part<'a> {
                 })
             }
             2 => {
-                let (demand, up, end) = self.pair()?;
+                let (demand, up, end) = self.demand_and_price()?;
                 Ok(Record::Up {
                     demand,
                     up,
@@ -161,7 +161,7 @@ impl<'a> Part<'a> {
                 })
             }
             3 => {
-                let (demand, down, end) = self.pair()?;
+                let (demand, down, end) = self.demand_and_price()?;
                 Ok(Record::Down {
                     demand,
                     down,
@@ -177,8 +177,8 @@ impl<'a> Part<'a> {
     // The record at the front.
     #[tactic(auto, using(crate::proofs::Leads::slot_led))]
     pub(crate) fn record(&self) -> Result<Record<'a>, RecordFault>
-        ensures reads { record_seen result ≡ record_at self.now.start self.now.bytes.now }
-        ensures within { IfOk result (λ r. length (record_bytes (seen r)) ≤ length self.now.bytes.now) }
+        ensures reads { parts_read result ≡ record_at self.now.start self.now.bytes.now }
+        ensures within { IfOk result (λ r. length (record_bytes (parts_of r)) ≤ length self.now.bytes.now) }
     {
         let [lead, rest @ ..] = self.bytes else {
             return Err(RecordFault::Ends(self.start));

@@ -1,6 +1,6 @@
 pub mod HeadTrips
 pub mod NumberTrips
-pub mod RowTrips
 pub mod SheetTrips
 pub mod SlotTrips
-pub mod WriteRows
+pub mod SlotsTrips
+pub mod WriteSlots

@@ -10,13 +10,13 @@ use Rattle.source.specs.Slots.{Slot}
 use Rattle.sheet.specs.declared.fault.NumberFault.{NumberFault}
 use Rattle.sheet.specs.declared.fault.Spot.{Spot}
 use Rattle.sheet.specs.Numbers.{ahead}
-use Rattle.sheet.specs.Records.{slot_told, by_lead, Told, pair, reported_slot}
+use Rattle.sheet.specs.Records.{slot_told, by_lead, SlotTold, demand_and_price, reported_slot}
 use Rattle.writing.specs.Bytes.{number_bytes, slot_bytes}
 use Rattle.writing.proofs.NumberTrips.{demand_back, price_back, demand_form, price_form}
 
 pair_back : (q : Spot) (s : List ℕ) (d : Demand) (u : Price) (rest : List ℕ) → s ≡ number_bytes d.kw ++ (number_bytes u.cents ++ rest)
-    → pair q s ≡ Ok (d, u, length (number_bytes d.kw) + length (number_bytes u.cents))
-unfolding pair
+    → demand_and_price q s ≡ Ok (d, u, length (number_bytes d.kw) + length (number_bytes u.cents))
+unfolding demand_and_price
 pair_back q s d u rest e = grind (arith, demand_back q s 0 d (number_bytes u.cents ++ rest), price_back q s (length (number_bytes d.kw)) u rest, drop_at)
 
 -- by the prices formed
@@ -49,12 +49,12 @@ Paired s (Ok g) = s ≡ number_bytes g.0.kw ++ (number_bytes g.1.cents ++ drop g
 Paired s (Err f) = Unit {0}
 
 -- and so the record
-abbrev pub Formed : List ℕ → Told → Type 0
+abbrev pub Formed : List ℕ → SlotTold → Type 0
 Formed s (Ok g) = s ≡ slot_bytes g.0 ++ drop g.1 s
 Formed s (Err f) = Unit {0}
 
-paired : (q : Spot) (s : List ℕ) → AllByRecursion (λ x. x < 256) s → Paired s (pair q s)
-unfolding pair
+paired : (q : Spot) (s : List ℕ) → AllByRecursion (λ x. x < 256) s → Paired s (demand_and_price q s)
+unfolding demand_and_price
 paired q s b = grind (arith, demand_form q s 0 b, price_form)
 
 -- a slot that was read stood there in the form that is written

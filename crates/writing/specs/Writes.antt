@@ -10,10 +10,10 @@ written s before = if nat_lt (length before) (length s) then Err (record { neede
 abbrev pub left : List ℕ → List ℕ → List ℕ
 left s before = if nat_lt (length before) (length s) then before else (s ++ drop (length s) before)
 
--- the number of the refusal
+-- 15: the buffer is too short
 abbrev pub buffer_number : ShortBuffer → ℕ
 buffer_number f = 15
 
--- its place: how many bytes are needed
+-- the place of that refusal: how many bytes are needed
 abbrev pub buffer_place : ShortBuffer → ℕ
 buffer_place f = f.needed

@@ -2,20 +2,33 @@
 ghost use Rattle.std.specs.Prelude.{◌≡◌, ◌+◌, ◌^◌, ◌<◌, ◌≤◌, ◌++◌};
 ghost use Rattle.arrayvec.specs.ArrayVec.{array_vec_len};
 ghost use Rattle.writing.specs.Bytes.{folded, groups_of, number_bytes};
-ghost use Rattle.writing.specs.declared.number.TheConstants.{MOST};
+ghost use Rattle.writing.specs.declared.number.TheConstants.{NUMBER_BYTES, SHEET_BYTES};
 
 use arrayvec::ArrayVec;
+use source::SLOTS;
 use units::Quantity;
 
-/// The most bytes of a sheet: 13 for the head, and 13 for each of its 228 slots.
-pub(crate) const MOST: usize = 2_977;
+/// The most bytes of a number.
+const NUMBER_BYTES: usize = 4;
+
+/// The most bytes of the avoided value: its flag and a price.
+pub(crate) const AVOIDED_BYTES: usize = 1 + NUMBER_BYTES;
+
+/// The most bytes of a record: its lead byte, a demand and two prices.
+pub(crate) const RECORD_BYTES: usize = 1 + 3 * NUMBER_BYTES;
+
+/// The most bytes of a head: the opening, which has four, the zone net and the avoided value.
+const HEAD_BYTES: usize = 4 + NUMBER_BYTES + AVOIDED_BYTES;
+
+/// The most bytes of a sheet.
+pub(crate) const SHEET_BYTES: usize = HEAD_BYTES + SLOTS * RECORD_BYTES;
 
 /// The bytes of a sheet so far.
-pub(crate) type SheetBytes = ArrayVec<u8, MOST>;
+pub(crate) type SheetBytes = ArrayVec<u8, SHEET_BYTES>;
 
 fn folded<Q: Quantity>(quantity: Q) -> u32
-    ensures value { result ≡ folded (Q.number_of quantity) }
-    ensures few { result < 2 ^ 28 }
+    ensures stored { result ≡ folded (Q.number_of quantity) }
+    ensures in_four_groups { result < 2 ^ 28 }
 {
     let number = quantity.number();
     if number >= 0 {
@@ -25,12 +38,12 @@ fn folded<Q: Quantity>(quantity: Q) -> u32
     }
 }
 
-// Groups of seven bits, lowest first.
+// Groups of seven bits, lowest first: 128 is 2 ^ 7, 16384 is 2 ^ 14 and 2097152 is 2 ^ 21.
 fn put_groups(out: &mut SheetBytes, stored: u32)
-    requires few { stored < 2 ^ 28 }
-    requires room { array_vec_len out.old + 4 ≤ MOST }
+    requires in_four_groups { stored < 2 ^ 28 }
+    requires room { array_vec_len out.old + NUMBER_BYTES ≤ SHEET_BYTES }
     ensures bytes { out.new.items ≡ out.old.items ++ groups_of stored }
-    ensures len { array_vec_len out.new ≤ array_vec_len out.old + 4 }
+    ensures len { array_vec_len out.new ≤ array_vec_len out.old + NUMBER_BYTES }
 {
     if stored < 128 {
         out.push(stored as u8);
@@ -52,9 +65,9 @@ fn put_groups(out: &mut SheetBytes, stored: u32)
 
 #[tactic(auto, unfolding(crate::specs::Bytes::number_bytes))]
 pub(crate) fn put_quantity<Q: Quantity>(out: &mut SheetBytes, quantity: Q)
-    requires { array_vec_len out.old + 4 ≤ MOST }
+    requires { array_vec_len out.old + NUMBER_BYTES ≤ SHEET_BYTES }
     ensures bytes { out.new.items ≡ out.old.items ++ number_bytes (Q.number_of quantity) }
-    ensures len { array_vec_len out.new ≤ array_vec_len out.old + 4 }
+    ensures len { array_vec_len out.new ≤ array_vec_len out.old + NUMBER_BYTES }
 {
     put_groups(out, folded(quantity));
 }

@@ -1,16 +1,16 @@
 // A slot, written: its lead byte, its demand and the prices formed for it.
 ghost use Rattle.std.specs.Prelude.{◌≡◌, ◌+◌, ◌≤◌, ◌++◌};
 ghost use Rattle.arrayvec.specs.ArrayVec.{array_vec_len};
-ghost use Rattle.sheet.specs.Readers.{by_prices};
+ghost use Rattle.sheet.specs.Records.{lead_byte};
 ghost use Rattle.writing.specs.Bytes.{avoided_bytes, price_bytes, reading_bytes, slot_bytes};
-ghost use Rattle.writing.specs.declared.number.TheConstants.{MOST};
+ghost use Rattle.writing.specs.declared.number.TheConstants.{AVOIDED_BYTES, NUMBER_BYTES, RECORD_BYTES, SHEET_BYTES};
 
 use crate::number::{SheetBytes, put_quantity};
 use source::{Reading, Slot};
 use units::Price;
 
 fn lead_of(up: Option<Price>, down: Option<Price>) -> u8
-    ensures { result ≡ by_prices up down }
+    ensures { result ≡ lead_byte up down }
 {
     match (up, down) {
         (None, None) => 1,
@@ -21,9 +21,9 @@ fn lead_of(up: Option<Price>, down: Option<Price>) -> u8
 }
 
 fn put_price(out: &mut SheetBytes, price: Option<Price>)
-    requires { array_vec_len out.old + 4 ≤ MOST }
+    requires { array_vec_len out.old + NUMBER_BYTES ≤ SHEET_BYTES }
     ensures bytes { out.new.items ≡ out.old.items ++ price_bytes price }
-    ensures len { array_vec_len out.new ≤ array_vec_len out.old + 4 }
+    ensures len { array_vec_len out.new ≤ array_vec_len out.old + NUMBER_BYTES }
 {
     if let Some(price) = price {
         put_quantity(out, price);
@@ -31,9 +31,9 @@ fn put_price(out: &mut SheetBytes, price: Option<Price>)
 }
 
 pub(crate) fn put_avoided(out: &mut SheetBytes, avoided: Option<Price>)
-    requires { array_vec_len out.old + 5 ≤ MOST }
+    requires { array_vec_len out.old + AVOIDED_BYTES ≤ SHEET_BYTES }
     ensures bytes { out.new.items ≡ out.old.items ++ avoided_bytes avoided }
-    ensures len { array_vec_len out.new ≤ array_vec_len out.old + 5 }
+    ensures len { array_vec_len out.new ≤ array_vec_len out.old + AVOIDED_BYTES }
 {
     match avoided {
         Some(price) => {
@@ -45,9 +45,9 @@ pub(crate) fn put_avoided(out: &mut SheetBytes, avoided: Option<Price>)
 }
 
 fn put_reading(out: &mut SheetBytes, reading: Reading)
-    requires { array_vec_len out.old + 13 ≤ MOST }
+    requires { array_vec_len out.old + RECORD_BYTES ≤ SHEET_BYTES }
     ensures bytes { out.new.items ≡ out.old.items ++ reading_bytes reading }
-    ensures len { array_vec_len out.new ≤ array_vec_len out.old + 13 }
+    ensures len { array_vec_len out.new ≤ array_vec_len out.old + RECORD_BYTES }
 {
     out.push(lead_of(reading.up, reading.down));
     put_quantity(out, reading.demand);
@@ -56,9 +56,9 @@ fn put_reading(out: &mut SheetBytes, reading: Reading)
 }
 
 pub(crate) fn put_slot(out: &mut SheetBytes, slot: Slot)
-    requires { array_vec_len out.old + 13 ≤ MOST }
+    requires { array_vec_len out.old + RECORD_BYTES ≤ SHEET_BYTES }
     ensures bytes { out.new.items ≡ out.old.items ++ slot_bytes slot }
-    ensures len { array_vec_len out.new ≤ array_vec_len out.old + 13 }
+    ensures len { array_vec_len out.new ≤ array_vec_len out.old + RECORD_BYTES }
 {
     match slot {
         None => out.push(0),

@@ -1,7 +1,7 @@
 use Rattle.std.proofs.Common.{◌≡◌, ◌≤◌, length, ap, ◌∙◌, arith}
 use Rattle.std.proofs.lemmas.List.{take_all}
 use Rattle.sheet.specs.Heads.{opening}
-use Rattle.writing.proofs.WriteRows.{all_put, head_put, slot_put}
+use Rattle.writing.proofs.WriteSlots.{all_put, head_put, slot_put}
 use Rattle.writing.proofs.sheet_writer.sheet_of.Goals as goal
 
 pub loop-slot-init : goal.loop-slot-init
@@ -13,7 +13,7 @@ loop-slot-init g c =
     let p = c.put_avoided.ensures in
     record {
       written = head_put m c.loop-byte.byte-index c.zone_net.result c.avoided.result c.loop-byte.sheet.items _ _ i c.zone_net.ensures c.avoided.ensures c.loop-byte.invariant q.bytes p.bytes;
-      few = omega (arith, n, q.len, p.len);
+      room = omega (arith, n, q.len, p.len);
     }
 
 pub loop-slot-preserved : goal.loop-slot-preserved
