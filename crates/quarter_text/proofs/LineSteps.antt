@@ -4,7 +4,7 @@ use Rattle.std.proofs.lemmas.List.{at_drop_more, get_or-map, length-map}
 use Rattle.units.specs.Chains.{result_and_then}
 use Rattle.quarter_text.specs.Drafts.{in_line, with_line, with_lines}
 use Rattle.quarter_text.specs.Steps.{TakenAs}
-use Rattle.quarter_text.specs.Reading.{ReadAs}
+use Rattle.quarter_text.specs.Reading.{AnswersText}
 use Rattle.quarter_text.specs.Words.{words_of}
 use Rattle.quarter_text.specs.declared.draft.Draft.{Draft}
 use Rattle.quarter_text.specs.declared.fault.ReadFault.{ReadFault}
@@ -28,6 +28,6 @@ line_refused ls n b d e f l h =
     at_drop_more (λ xs. result_and_then (with_lines n d xs) f) (bytes ls) n b.now long ∙ rw (get_or-map (λ (x : Bor (List ℕ)). x.now) ls n b, h) refl
 
 -- a fault of the line is the fault of the text
-pub refused_as : (a : Result Draft TextFault) (q : Result TextQuarter TextFault) (g : ReadFault) (d : Draft) → TakenAs a (Err g) d → ((e : TextFault) → a ≡ Err e → q ≡ Err e) → ReadAs q (Err g)
+pub refused_as : (a : Result Draft TextFault) (q : Result TextQuarter TextFault) (g : ReadFault) (d : Draft) → TakenAs a (Err g) d → ((e : TextFault) → a ≡ Err e → q ≡ Err e) → AnswersText q (Err g)
 refused_as a q (Text e) d h f = f e h
 refused_as a q Memory d h f = tt

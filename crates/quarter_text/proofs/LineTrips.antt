@@ -15,9 +15,10 @@ use Rattle.units.specs.Text.{euros}
 use Rattle.units.specs.declared.demand.Demand.{Demand}
 use Rattle.units.specs.declared.price.Price.{Price}
 use Rattle.units.specs.declared.zone_net.ZoneNet.{ZoneNet}
-use Rattle.quarter_text.specs.Ranges.{numbered, slot_of, slots_from}
+use Rattle.source.specs.declared.slot.TheConstants.{SLOTS}
+use Rattle.quarter_text.specs.Ranges.{numbered, slot_of, slots_from_to}
 use Rattle.quarter_text.specs.Lines.{Words, avoided_line, price_at, range_line, told_by, zone_net_line}
-use Rattle.quarter_text.specs.Numerals.{numeral, value_of}
+use Rattle.quarter_text.specs.Numerals.{numeral, integer_of}
 use Rattle.quarter_text.specs.Texts.{price_text, slots_text, told_text}
 use Rattle.quarter_text.specs.Words.{words_of}
 use Rattle.quarter_text.specs.declared.fault.Part.{Part}
@@ -42,7 +43,7 @@ dash_case w n false e h = refl
 no_dash : (z : ℤ) (w : List ℕ) → Reads 2 z w → bytes_eq w (45 ∷ []) ≡ false
 no_dash z w r = dash_case w (number z) (bytes_eq w (45 ∷ [])) refl r.value
 
-price_again : (p : Price) → price_of (value_of (number p.cents)) ≡ Ok p
+price_again : (p : Price) → price_of (integer_of (number p.cents)) ≡ Ok p
 price_again p = ap price_of (value_number p.cents) ∙ sym (price_made p.cents p refl)
 
 pub price_there : (p : Option Price) (ws : Words) (k : ℕ) (t : Part) → slice_get ws k ≡ Some (price_text p) → price_at ws k t ≡ Ok p
@@ -64,13 +65,13 @@ price_letter (Some p) c v l = (euros_read p.cents (price_fits p)).first c v l
 demand_fits : (d : Demand) → nat_abs d.kw < 2 ^ 63
 demand_fits d = omega (arith, d.bounded)
 
-demand_again : (d : Demand) → demand_of (value_of (number d.kw)) ≡ Ok d
+demand_again : (d : Demand) → demand_of (integer_of (number d.kw)) ≡ Ok d
 demand_again d = ap demand_of (value_number d.kw) ∙ sym (demand_made d.kw d refl)
 
 net_fits : (z : ZoneNet) → nat_abs z.kw < 2 ^ 63
 net_fits z = omega (arith, z.bounded)
 
-net_again : (z : ZoneNet) → zone_net_of (value_of (number z.kw)) ≡ Ok z
+net_again : (z : ZoneNet) → zone_net_of (integer_of (number z.kw)) ≡ Ok z
 net_again z = ap zone_net_of (value_number z.kw) ∙ sym (zone_net_made z.kw z refl)
 
 -- THE HEAD
@@ -117,23 +118,23 @@ told_inline (Some d) =
 -- slots that stand on one line: cycles, or one manual slot
 pub record OneLine (a b : ℕ) : Type 0 where
   pub order : a ≤ b
-  pub within : b < 228
-  pub manual : 225 ≤ a → b ≡ a
+  pub within : b < SLOTS
+  pub manual : CYCLES ≤ a → b ≡ a
 
-slot_there : (n : ℕ) (w : List ℕ) → n < 228 → Writes n w → slot_of w ≡ Ok n
-slot_there n w l h = rw (digits_read n w h, lt-ltb n 228 l) refl
+slot_there : (n : ℕ) (w : List ℕ) → n < SLOTS → Writes n w → slot_of w ≡ Ok n
+slot_there n w l h = rw (digits_read n w h, lt-ltb n SLOTS l) refl
 
-module _ (a b : ℕ) (l : a ≤ b) (m : b < 228) where
+module _ (a b : ℕ) (l : a ≤ b) (m : b < SLOTS) where
   low : Writes a (decimal a)
   low = decimal_writes a (omega (arith, l, m))
 
   high : Writes b (decimal b)
   high = decimal_writes b (omega (arith, m))
 
-  one_there : numbered (decimal a) (position (λ x. x == 45) (decimal a)) ≡ Ok (slots_from a a)
+  one_there : numbered (decimal a) (position (λ x. x == 45) (decimal a)) ≡ Ok (slots_from_to a a)
   one_there = rw (no_place 45 (decimal a) refl low.only, slot_there a (decimal a) (omega (arith, l, m)) low) refl
 
-  both_there : numbered (decimal a ++ (45 ∷ decimal b)) (position (λ x. x == 45) (decimal a ++ (45 ∷ decimal b))) ≡ Ok (slots_from a b)
+  both_there : numbered (decimal a ++ (45 ∷ decimal b)) (position (λ x. x == 45) (decimal a ++ (45 ∷ decimal b))) ≡ Ok (slots_from_to a b)
   both_there =
       let rest : drop (length (decimal a) + 1) (decimal a ++ (45 ∷ decimal b)) ≡ decimal b = drop-append-add (decimal a) (45 ∷ decimal b) 1 in
       rw (place_after 45 (decimal a) (decimal b) refl low.only, take-append_seam (decimal a) (45 ∷ decimal b), rest, slot_there a (decimal a) (omega (arith, l, m)) low, slot_there b (decimal b) m high, le-leb a b l) refl
@@ -147,18 +148,18 @@ module _ (a b : ℕ) (l : a ≤ b) (m : b < 228) where
 -- the word of slots is read as them
 pub record SlotsRead (a b : ℕ) : Type 0 where
   pub word : Word (slots_text a b)
-  pub range : (ws : Words) → range_line (slots_text a b ∷ ws) ≡ Ok (slots_from a b)
+  pub range : (ws : Words) → range_line (slots_text a b ∷ ws) ≡ Ok (slots_from_to a b)
 
-manual_read : (a b : ℕ) → b ≡ a → Word (slots_text a a) → ((ws : Words) → range_line (slots_text a a ∷ ws) ≡ Ok (slots_from a a)) → SlotsRead a b
+manual_read : (a b : ℕ) → b ≡ a → Word (slots_text a a) → ((ws : Words) → range_line (slots_text a a ∷ ws) ≡ Ok (slots_from_to a a)) → SlotsRead a b
 manual_read a b e w r = subst (λ x. SlotsRead a x) (sym e) (record { word = w; range = r })
 
-cycles_read : (a b : ℕ) (t : Bool) → (a == b) ≡ t → nat_lt a CYCLES ≡ true → a ≤ b → b < 228 → SlotsRead a b
+cycles_read : (a b : ℕ) (t : Bool) → (a == b) ≡ t → nat_lt a CYCLES ≡ true → a ≤ b → b < SLOTS → SlotsRead a b
 cycles_read a b true e c l m =
     let same : a ≡ b = eqb-true a b e in
     let h = decimal_writes a (omega (arith, l, m)) in
     record {
       word = rw (c, e) (word_of_digits a (decimal a) h);
-      range = λ ws. rw (c, e, digits_first a (decimal a) h 115 (codes "cheduled") (omega arith), digits_first a (decimal a) h 117 (codes "p") (omega arith), digits_first a (decimal a) h 100 (codes "own") (omega arith)) (one_there a b l m ∙ ap (λ n. Ok (slots_from a n)) same);
+      range = λ ws. rw (c, e, digits_first a (decimal a) h 115 (codes "cheduled") (omega arith), digits_first a (decimal a) h 117 (codes "p") (omega arith), digits_first a (decimal a) h 100 (codes "own") (omega arith)) (one_there a b l m ∙ ap (λ n. Ok (slots_from_to a n)) same);
     }
 cycles_read a b false e c l m =
     let h = decimal_writes a (omega (arith, l, m)) in
@@ -171,15 +172,15 @@ cycles_read a b false e c l m =
 pub slots_read : (a b : ℕ) → OneLine a b → SlotsRead a b
 slots_read a b o =
     ⊎_elim
-    (λ (e : a ≡ 225). manual_read a b (o.manual (omega (arith, e))) (rw e (record { bytes = refl; some = omega arith })) (λ ws. rw e refl))
-    (λ (x : a ≡ 225 → ⊥). ⊎_elim
+    (λ (e : a ≡ CYCLES). manual_read a b (o.manual (omega (arith, e))) (rw e (record { bytes = refl; some = omega arith })) (λ ws. rw e refl))
+    (λ (x : a ≡ CYCLES → ⊥). ⊎_elim
     (λ (e : a ≡ 226). manual_read a b (o.manual (omega (arith, e))) (rw e (record { bytes = refl; some = omega arith })) (λ ws. rw e refl))
     (λ (y : a ≡ 226 → ⊥). ⊎_elim
     (λ (e : a ≡ 227). manual_read a b (o.manual (omega (arith, e))) (rw e (record { bytes = refl; some = omega arith })) (λ ws. rw e refl))
     (λ (z : a ≡ 227 → ⊥). cycles_read a b (a == b) refl (lt-ltb a CYCLES (omega (arith, x, y, z, o.order, o.within))) o.order o.within)
     (cases_eq a 227))
     (cases_eq a 226))
-    (cases_eq a 225)
+    (cases_eq a CYCLES)
 
 -- THE WORDS OF THE HEAD
 

@@ -7,7 +7,7 @@ use Rattle.std.specs.Char.{is_ascii_digit}
 use Rattle.std.specs.Fmt.{signed_decimal}
 use Rattle.std.specs.Str.{bytes_eq}
 use Rattle.units.specs.Text.{euros, magnitude as euro_digits}
-use Rattle.quarter_text.specs.Numerals.{Number, by_point, digits, magnitude, numeral, value_of, with_decimals}
+use Rattle.quarter_text.specs.Numerals.{Number, by_point, digits, unsigned_numeral, numeral, integer_of, with_decimals}
 use Rattle.quarter_text.proofs.Tokens.{Word, plain, plain_joined}
 use Rattle.quarter_text.proofs.Digits.{Writes, all_digits, decimal_writes, digits_plain, digits_read, no_place, place_after, word_of_digits, writes_digit}
 
@@ -16,7 +16,7 @@ abbrev pub number : ℤ → Number
 number (pos n) = record { negative = false; size = n }
 number (negsuc n) = record { negative = true; size = suc n }
 
-pub value_number : (z : ℤ) → value_of (number z) ≡ z
+pub value_number : (z : ℤ) → integer_of (number z) ≡ z
 value_number (pos n) = refl
 value_number (negsuc n) = refl
 
@@ -27,7 +27,7 @@ pub record Reads (places : ℕ) (z : ℤ) (w : List ℕ) : Type 0 where
   -- no letter begins it
   pub first : (c : ℕ) (v : List ℕ) → 65 ≤ c → bytes_eq w (c ∷ v) ≡ false
 
-whole_magnitude : (n : ℕ) (w : List ℕ) → Writes n w → magnitude 0 w ≡ Some n
+whole_magnitude : (n : ℕ) (w : List ℕ) → Writes n w → unsigned_numeral 0 w ≡ Some n
 whole_magnitude n w h = rw (no_place 46 w refl h.only, digits_read n w h) (ap Some (omega arith))
 
 -- digits begin with no letter, whatever follows them
@@ -41,7 +41,7 @@ no_letter (b ∷ w) u p l c v m =
 pub digits_first : (n : ℕ) (w : List ℕ) → Writes n w → (c : ℕ) (v : List ℕ) → 65 ≤ c → bytes_eq w (c ∷ v) ≡ false
 digits_first n w h c v l = ap (λ x. bytes_eq x (c ∷ v)) (sym (append-nil w)) ∙ no_letter w [] h.only h.some c v l
 
-unsigned : (places n : ℕ) (w : List ℕ) → 1 ≤ length w → ((b : ℕ) (v : List ℕ) → w ≡ b ∷ v → (b == 45) ≡ false) → magnitude places w ≡ Some n → numeral places w ≡ Some (number (pos n))
+unsigned : (places n : ℕ) (w : List ℕ) → 1 ≤ length w → ((b : ℕ) (v : List ℕ) → w ≡ b ∷ v → (b == 45) ≡ false) → unsigned_numeral places w ≡ Some n → numeral places w ≡ Some (number (pos n))
 unsigned places n [] l f e = absurd (omega (arith, l))
 unsigned places n (b ∷ w) l f e = rw (f b w refl, e) refl
 
@@ -89,12 +89,12 @@ euro_text : (n : ℕ) → euro_digits n ≡ decimal (n / 100) ++ (46 ∷ cents_d
 unfolding euro_digits
 euro_text n = refl
 
-euros_magnitude : (n : ℕ) → n / 100 < 2 ^ 64 → magnitude 2 (euro_digits n) ≡ Some n
+euros_magnitude : (n : ℕ) → n / 100 < 2 ^ 64 → unsigned_numeral 2 (euro_digits n) ≡ Some n
 euros_magnitude n l =
     let h = decimal_writes (n / 100) l in
     let d : List ℕ = decimal (n / 100) in
     let rest : drop (length d + 1) (d ++ (46 ∷ cents_digits n)) ≡ cents_digits n = drop-append-add d (46 ∷ cents_digits n) 1 in
-    ap (magnitude 2) (euro_text n)
+    ap (unsigned_numeral 2) (euro_text n)
     ∙ ap (by_point 2 (d ++ (46 ∷ cents_digits n))) (place_after 46 d (cents_digits n) refl h.only)
     ∙ ap (λ w. with_decimals 2 (digits w) (drop (length d + 1) (d ++ (46 ∷ cents_digits n)))) (take-append_seam d (46 ∷ cents_digits n))
     ∙ ap (with_decimals 2 (digits d)) rest

@@ -2,6 +2,7 @@
 use Rattle.std.proofs.Common.{◌≡◌, ℕ, ◌+◌, ◌++◌, true, false, List, sym, refl, ap, ◌∙◌, append-nil, append_assoc, add-one}
 use Rattle.source.specs.Meanings.{Meaning}
 use Rattle.source.specs.Slots.{Slot}
+use Rattle.source.specs.declared.slot.TheConstants.{SLOTS}
 use Rattle.quarter_text.specs.Texts.{ends_run, head_text, lines_to, run_start, shown_run, text_of}
 
 -- before the first slot
@@ -22,6 +23,6 @@ run_put m k f s h a b e t x y z =
     let put : b ≡ h ++ (lines_to m k ++ shown_run (run_start m k) k (m k)) = z ∙ ap (λ l. l ++ shown_run f k s) x ∙ ap (λ r. (h ++ lines_to m k) ++ r) shown ∙ append_assoc h (lines_to m k) (shown_run (run_start m k) k (m k)) in
     (rw (add-one, e) put, rw (add-one, e) refl)
 
-pub all_printed : (m : Meaning) (k : ℕ) (a : List ℕ) → k ≡ 228 → a ≡ head_text m.zone.kw m.avoided ++ lines_to m.slots k → a ≡ text_of m
+pub all_printed : (m : Meaning) (k : ℕ) (a : List ℕ) → k ≡ SLOTS → a ≡ head_text m.zone.kw m.avoided ++ lines_to m.slots k → a ≡ text_of m
 unfolding text_of
 all_printed m k a e x = x ∙ ap (λ n. head_text m.zone.kw m.avoided ++ lines_to m.slots n) e

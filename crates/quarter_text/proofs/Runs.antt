@@ -8,6 +8,7 @@ use Rattle.source.specs.Slots.{Slot}
 use Rattle.source.specs.declared.product.TheConstants.{CYCLES}
 use Rattle.units.proofs.Made.{demand_same, price_same}
 use Rattle.units.specs.declared.price.Price.{Price}
+use Rattle.source.specs.declared.slot.TheConstants.{SLOTS}
 use Rattle.quarter_text.specs.Drafts.{name_slots}
 use Rattle.quarter_text.specs.Texts.{ends_run, run_start, same_price, same_slot}
 use Rattle.quarter_text.proofs.LineTrips.{OneLine}
@@ -74,10 +75,10 @@ module _ (m : ℕ → Slot) where
       (cases_Bool (ends_run m k))
 
   -- manual slots stand alone
-  pub one_line : (k : ℕ) → k < 228 → OneLine (run_start m k) k
+  pub one_line : (k : ℕ) → k < SLOTS → OneLine (run_start m k) k
   one_line k l = record { order = start_low k; within = l; manual = alone k }
     where
-      alone : (k : ℕ) → 225 ≤ run_start m k → k ≡ run_start m k
+      alone : (k : ℕ) → CYCLES ≤ run_start m k → k ≡ run_start m k
       alone zero h = omega (arith, h, start_first)
       alone (suc k) h = ⊎_elim
           (λ (e : ends_run m k ≡ true). sym (start_next k e))

@@ -12,12 +12,13 @@ use Rattle.writing.proofs.SheetTrips.{same_bytes}
 use Rattle.writing.specs.Bytes.{sheet_bytes}
 use Rattle.writing.specs.Trips.{TellsSame}
 use Rattle.units.specs.Chains.{result_and_then}
+use Rattle.source.specs.declared.slot.TheConstants.{SLOTS}
 use Rattle.quarter_text.specs.Drafts.{blank, finished, with_line, with_lines, with_slots}
-use Rattle.quarter_text.specs.Ranges.{slots_from}
+use Rattle.quarter_text.specs.Ranges.{slots_from_to}
 use Rattle.source.specs.Tables.{idle}
 use Rattle.quarter_text.specs.Quarters.{meaning_of}
 use Rattle.quarter_text.specs.Texts.{ends_run, head_text, lines_to, price_text, run_start, run_text, same_slot, slots_text, text_of, told_text}
-use Rattle.quarter_text.specs.Trips.{ReadsBack, SameSheet}
+use Rattle.quarter_text.specs.Trips.{ReadsBack, SameSheetThroughText}
 use Rattle.quarter_text.specs.Words.{lines_of, words_of}
 use Rattle.quarter_text.specs.declared.draft.AvoidedValue.TheVariants.{NotYetSaid, Said}
 use Rattle.quarter_text.specs.declared.draft.Draft.{Draft}
@@ -48,10 +49,10 @@ leads_line l d e p h n u =
 -- THE HEAD
 
 abbrev netted : ZoneNet → Draft
-netted z = record { zone_net = Some z; avoided = NotYetSaid; named = replicate 228 None }
+netted z = record { zone_net = Some z; avoided = NotYetSaid; named = replicate SLOTS None }
 
 abbrev headed : ZoneNet → Option Price → Draft
-headed z v = record { zone_net = Some z; avoided = Said v; named = replicate 228 None }
+headed z v = record { zone_net = Some z; avoided = Said v; named = replicate SLOTS None }
 
 head_leads : (z : ZoneNet) (v : Option Price) → Leads (head_text z.kw v) blank (headed z v)
 unfolding head_text
@@ -77,7 +78,7 @@ told_of s = cond (same_slot s idle) None (Some s)
 
 -- the first j slots are named
 record Marked (m : ℕ → Slot) (j : ℕ) (l : List (Option Slot)) : Type 0 where
-  long : length l ≡ 228
+  long : length l ≡ SLOTS
   before : (i : ℕ) → i < j → get_or l i None ≡ told_of (m i)
   after : (i : ℕ) → j ≤ i → get_or l i None ≡ None
 
@@ -88,7 +89,7 @@ run_leads z v a b s l o k =
     let words : words_of (slots_text a b ++ (32 ∷ told_text s)) ≡ slots_text a b ∷ told_words s = word_first (slots_text a b) (told_text s) r.word ∙ ap (λ w. slots_text a b ∷ w) (told_split s) in
     let line = leads_line (slots_text a b ++ (32 ∷ told_text s)) (with_slots (headed z v) l) (with_slots (headed z v) k.named)
     (inline_joined (slots_text a b) (32 ∷ told_text s) (inline_word (slots_text a b) r.word.bytes) (and_from true (inline (told_text s)) refl (told_inline s)))
-    (rw (words, r.range (told_words s), told_there (slots_text a b) s (slots_from a b), k.is) refl) in
+    (rw (words, r.range (told_words s), told_there (slots_text a b) s (slots_from_to a b), k.is) refl) in
     subst (λ t. Leads t (with_slots (headed z v) l) (with_slots (headed z v) k.named)) (append_assoc (slots_text a b) (32 ∷ told_text s) (10 ∷ [])) line
 
 -- after the first k slots
@@ -101,11 +102,11 @@ module _ (m : ℕ → Slot) (z : ZoneNet) (v : Option Price) where
   stood_first : Stood m z v 0
   unfolding lines_to
   stood_first = record {
-    named = replicate 228 None;
+    named = replicate SLOTS None;
     marked = record {
       long = refl;
       before = λ i l. absurd (omega (arith, l, start_first m));
-      after = λ i l. all_same 228 i None;
+      after = λ i l. all_same SLOTS i None;
     };
     leads = leads_on (headed z v);
   }
@@ -136,7 +137,7 @@ module _ (m : ℕ → Slot) (z : ZoneNet) (v : Option Price) where
   }
 
   -- a run ends that has a line
-  stood_named : (k : ℕ) → k < 228 → ends_run m k ≡ true → same_slot (m k) idle ≡ false → Stood m z v k → Stood m z v (suc k)
+  stood_named : (k : ℕ) → k < SLOTS → ends_run m k ≡ true → same_slot (m k) idle ≡ false → Stood m z v k → Stood m z v (suc k)
   unfolding lines_to
   stood_named k b e t s =
       let a : ℕ = run_start m k in
@@ -155,7 +156,7 @@ module _ (m : ℕ → Slot) (z : ZoneNet) (v : Option Price) where
         leads = rw (e, t) (leads_both (lines_to m k) (run_text a k (m k)) (headed z v) (with_slots (headed z v) s.named) (with_slots (headed z v) n.named) s.leads (run_leads z v a k (m k) s.named (one_line m k b) n));
       }
 
-  stood_next : (k : ℕ) → k < 228 → Stood m z v k → Stood m z v (suc k)
+  stood_next : (k : ℕ) → k < SLOTS → Stood m z v k → Stood m z v (suc k)
   stood_next k b s = ⊎_elim
       (λ (e : ends_run m k ≡ true). ⊎_elim
       (λ (t : same_slot (m k) idle ≡ true). stood_idle k e t s)
@@ -164,13 +165,13 @@ module _ (m : ℕ → Slot) (z : ZoneNet) (v : Option Price) where
       (λ (e : ends_run m k ≡ false). stood_on k e s)
       (cases_Bool (ends_run m k))
 
-  stood : (k : ℕ) → k ≤ 228 → Stood m z v k
+  stood : (k : ℕ) → k ≤ SLOTS → Stood m z v k
   stood zero b = stood_first
   stood (suc k) b = stood_next k (omega (arith, b)) (stood k (omega (arith, b)))
 
 -- THE WHOLE TEXT
 
-last_ends : (m : ℕ → Slot) → run_start m 228 ≡ 228
+last_ends : (m : ℕ → Slot) → run_start m SLOTS ≡ SLOTS
 unfolding run_start ends_run
 last_ends m = refl
 
@@ -183,10 +184,10 @@ told_again s = ⊎_elim
 pub reads_back : (m : Meaning) → ReadsBack m
 unfolding text_of
 reads_back m =
-    let s = stood m.slots m.zone m.avoided 228 (omega arith) in
+    let s = stood m.slots m.zone m.avoided SLOTS (omega arith) in
     let q : TextQuarter = record { zone_net = m.zone; avoided = m.avoided; named = s.named } in
-    let leads = leads_both (head_text m.zone.kw m.avoided) (lines_to m.slots 228) blank (headed m.zone m.avoided) (with_slots (headed m.zone m.avoided) s.named) (head_leads m.zone m.avoided) s.leads in
-    let text : List ℕ = head_text m.zone.kw m.avoided ++ lines_to m.slots 228 in
+    let leads = leads_both (head_text m.zone.kw m.avoided) (lines_to m.slots SLOTS) blank (headed m.zone m.avoided) (with_slots (headed m.zone m.avoided) s.named) (head_leads m.zone m.avoided) s.leads in
+    let text : List ℕ = head_text m.zone.kw m.avoided ++ lines_to m.slots SLOTS in
     let read : with_lines 0 blank (lines_of text) ≡ Ok (with_slots (headed m.zone m.avoided) s.named) = ap (λ t. with_lines 0 blank (lines_of t)) (sym (append-nil text)) ∙ (leads 0 []).1 in
     record {
       quarter = q;
@@ -201,7 +202,7 @@ reads_back m =
 ok_same : {p q : TextQuarter} {F : Type 0} → ◌≡◌ {A = Result TextQuarter F} (Ok p) (Ok q) → p ≡ q
 ok_same e = cc
 
-pub same_sheet : (m : Meaning) → SameSheet m
+pub same_sheet : (m : Meaning) → SameSheetThroughText m
 same_sheet m b bytes sound alike q e =
     let r = reads_back m in
     let same : r.quarter ≡ q = ok_same (sym r.read ∙ e) in

@@ -4,7 +4,7 @@ use Rattle.units.specs.Chains.{result_and_then, result_map_err}
 use Rattle.source.specs.Slots.{Slot}
 use Rattle.source.specs.declared.slot.TheConstants.{SLOTS}
 use Rattle.units.specs.declared.zone_net.ZoneNet.{ZoneNet}
-use Rattle.quarter_text.specs.Faults.{Read, at_word, fault_in}
+use Rattle.quarter_text.specs.Faults.{ReadOrFault, at_word, fault_in}
 use Rattle.quarter_text.specs.Lines.{Words, avoided_line, range_line, told_by, zone_net_line}
 use Rattle.quarter_text.specs.Words.{lines_of, words_of}
 use Rattle.quarter_text.specs.declared.draft.AvoidedValue.{AvoidedValue}
@@ -21,7 +21,7 @@ abbrev pub blank : Draft
 blank = record { zone_net = None; avoided = NotYetSaid; named = replicate SLOTS None }
 
 -- the n slots from the first on are told so, unless one of them was named before
-abbrev pub name_slots : List (Option Slot) → ℕ → ℕ → Slot → Read (List (Option Slot))
+abbrev pub name_slots : List (Option Slot) → ℕ → ℕ → Slot → ReadOrFault (List (Option Slot))
 name_slots named first zero s = Ok named
 name_slots named first (suc n) s =
     result_and_then (name_slots named first n s)
@@ -31,29 +31,29 @@ name_slots named first (suc n) s =
 abbrev pub with_slots : Draft → List (Option Slot) → Draft
 with_slots d l = record { zone_net = d.zone_net; avoided = d.avoided; named = l }
 
--- a line of slots
-abbrev pub with_range : Draft → Words → Range → Read Draft
+-- a draft after a line of slots
+abbrev pub with_range : Draft → Words → Range → ReadOrFault Draft
 with_range d ws r =
     result_and_then (told_by ws r)
     (λ told. result_and_then (name_slots d.named r.first (r.last + 1 - r.first) told)
     (λ named. Ok (with_slots d named)))
 
--- a line that is not empty: first the zone net, then the avoided value, then slots
-abbrev pub with_words : Draft → Option ZoneNet → AvoidedValue → Words → Read Draft
+-- a draft after a line that is not empty: first the zone net, then the avoided value, then slots
+abbrev pub with_words : Draft → Option ZoneNet → AvoidedValue → Words → ReadOrFault Draft
 with_words d None v ws = result_and_then (zone_net_line ws) (λ z. Ok (record { zone_net = Some z; avoided = d.avoided; named = d.named }))
 with_words d (Some z) NotYetSaid ws = result_and_then (avoided_line ws) (λ p. Ok (record { zone_net = d.zone_net; avoided = Said p; named = d.named }))
 with_words d (Some z) (Said v) ws = result_and_then (range_line ws) (with_range d ws)
 
--- an empty line says nothing
-abbrev pub with_line : Draft → Words → Read Draft
+-- a draft after a line; an empty one says nothing
+abbrev pub with_line : Draft → Words → ReadOrFault Draft
 with_line d [] = Ok d
 with_line d (w ∷ ws) = with_words d d.zone_net d.avoided (w ∷ ws)
 
 -- what is read of the n-th line, counted from 0
-abbrev pub in_line : {X : Type 0} → ℕ → Read X → Result X TextFault
+abbrev pub in_line : {X : Type 0} → ℕ → ReadOrFault X → Result X TextFault
 in_line n x = result_map_err x (fault_in n)
 
--- the lines from the n-th on, one after another
+-- a draft after these lines, of which the first is the n-th of the text; or their first fault
 abbrev pub with_lines : ℕ → Draft → List (List ℕ) → Result Draft TextFault
 with_lines n d [] = Ok d
 with_lines n d (l ∷ ls) = result_and_then (in_line n (with_line d (words_of l))) (λ e. with_lines (n + 1) e ls)

@@ -9,23 +9,23 @@ use Rattle.quarter_text.specs.declared.fault.TextFault.{TextFault}
 use Rattle.quarter_text.specs.declared.fault.WordFault.{WordFault}
 
 -- what is read of words, or the first of them that is refused
-abbrev pub Read : Type 0 → Type 0
-Read X = Result X WordFault
+abbrev pub ReadOrFault : Type 0 → Type 0
+ReadOrFault X = Result X WordFault
 
 -- the word at k has this problem
 abbrev pub fault_at : ℕ → Problem → WordFault
 fault_at k p = record { word = k; problem = p }
 
--- something else should stand at k
+-- p should stand at k
 abbrev pub expected_at : ℕ → Part → WordFault
 expected_at k p = fault_at k (Expected p)
 
 -- the word at k is refused
-abbrev pub at_word : {X : Type 0} → ℕ → Problem → Read X
+abbrev pub at_word : {X : Type 0} → ℕ → Problem → ReadOrFault X
 at_word k p = Err (fault_at k p)
 
 -- the quantity that the word at k writes, unless it is out of bounds
-abbrev pub in_bounds : {Q : Type 0} → ℕ → Result Q OutOfBounds → Read Q
+abbrev pub in_bounds : {Q : Type 0} → ℕ → Result Q OutOfBounds → ReadOrFault Q
 in_bounds k made = result_map_err made (λ e. fault_at k (Bounds e))
 
 -- the fault of a word in the n-th line

@@ -7,11 +7,12 @@ use Rattle.source.specs.Slots.{Slot}
 use Rattle.units.specs.Quantities.{demand_of, price_of, zone_net_of}
 use Rattle.units.specs.declared.bounds.OutOfBounds.{OutOfBounds}
 use Rattle.units.specs.declared.bounds.OutOfBounds.TheVariants as bound
+use Rattle.units.specs.declared.bounds.TheConstants.{MOST_KW}
 use Rattle.units.specs.declared.demand.Demand.{Demand}
 use Rattle.units.specs.declared.price.Price.{Price}
 use Rattle.units.specs.declared.zone_net.ZoneNet.{ZoneNet}
-use Rattle.quarter_text.specs.Faults.{Read, at_word, expected_at, in_bounds}
-use Rattle.quarter_text.specs.Numerals.{Number, numeral, value_of}
+use Rattle.quarter_text.specs.Faults.{ReadOrFault, at_word, expected_at, in_bounds}
+use Rattle.quarter_text.specs.Numerals.{Number, numeral, integer_of}
 use Rattle.quarter_text.specs.Ranges.{range_of, weight_of_range}
 use Rattle.quarter_text.specs.declared.fault.Part.{Part}
 use Rattle.quarter_text.specs.declared.fault.Part.TheVariants as part
@@ -22,36 +23,36 @@ use Rattle.quarter_text.specs.declared.range.Range.{Range}
 abbrev pub Words : Type 0
 Words = List (List ℕ)
 
--- the word at k, or what should stand there
-abbrev pub word_at : Words → ℕ → Part → Read (List ℕ)
+-- the word at k; where the line ends before it, p should stand there
+abbrev pub word_at : Words → ℕ → Part → ReadOrFault (List ℕ)
 word_at ws k p = ok_or (slice_get ws k) (expected_at k p)
 
 -- whether this very word stands at k
 abbrev pub is_word : Words → ℕ → List ℕ → Bool
 is_word ws k w = option_map_or (λ v. bytes_eq v w) (slice_get ws k) false
 
--- this very word at k
-abbrev pub keyword : Words → ℕ → Part → List ℕ → Read (Unit {0})
+-- this very word stands at k; else p should
+abbrev pub keyword : Words → ℕ → Part → List ℕ → ReadOrFault (Unit {0})
 keyword ws k p w = if is_word ws k w then Ok tt else Err (expected_at k p)
 
 -- no word at k, nor after it
-abbrev pub end_at : Words → ℕ → Read (Unit {0})
+abbrev pub end_at : Words → ℕ → ReadOrFault (Unit {0})
 end_at ws k = if nat_le (length ws) k then Ok tt else Err (expected_at k part.End)
 
--- a numeral with so many places at k
-abbrev pub number_at : ℕ → Words → ℕ → Part → Read Number
+-- the number at k, with up to so many decimals
+abbrev pub number_at : ℕ → Words → ℕ → Part → ReadOrFault Number
 number_at places ws k p = result_and_then (word_at ws k p) (λ w. ok_or (numeral places w) (expected_at k p))
 
--- a quantity at k, of a numeral with so many places
-abbrev pub quantity_at : {Q : Type 0} → (ℤ → Result Q OutOfBounds) → ℕ → Words → ℕ → Part → Read Q
-quantity_at made places ws k p = result_and_then (number_at places ws k p) (λ n. in_bounds k (made (value_of n)))
+-- the quantity at k, of a number with up to so many decimals
+abbrev pub quantity_at : {Q : Type 0} → (ℤ → Result Q OutOfBounds) → ℕ → Words → ℕ → Part → ReadOrFault Q
+quantity_at made places ws k p = result_and_then (number_at places ws k p) (λ n. in_bounds k (made (integer_of n)))
 
 -- euros with up to two decimals at k, or a - where there is no price
-abbrev pub price_at : Words → ℕ → Part → Read (Option Price)
+abbrev pub price_at : Words → ℕ → Part → ReadOrFault (Option Price)
 price_at ws k p = if is_word ws k (codes "-") then Ok None else result_and_then (quantity_at price_of 2 ws k p) (λ price. Ok (Some price))
 
 -- the line of the zone net
-abbrev pub zone_net_line : Words → Read ZoneNet
+abbrev pub zone_net_line : Words → ReadOrFault ZoneNet
 zone_net_line ws =
     result_and_then (keyword ws 0 part.Net (codes "net"))
     (λ net. result_and_then (quantity_at zone_net_of 0 ws 1 part.ZoneNet)
@@ -59,7 +60,7 @@ zone_net_line ws =
     (λ ended. Ok zone_net)))
 
 -- the line of the avoided value
-abbrev pub avoided_line : Words → Read (Option Price)
+abbrev pub avoided_line : Words → ReadOrFault (Option Price)
 avoided_line ws =
     result_and_then (keyword ws 0 part.Avoided (codes "avoided"))
     (λ word. result_and_then (price_at ws 1 part.AvoidedValue)
@@ -67,22 +68,26 @@ avoided_line ws =
     (λ ended. Ok avoided)))
 
 -- the slots that a line names
-abbrev pub range_line : Words → Read Range
+abbrev pub range_line : Words → ReadOrFault Range
 range_line ws = result_and_then (word_at ws 0 part.Slots) range_of
 
--- energy over slots as the power in each of them: kWh times 900 by their weights
-abbrev pub power : ℕ → ℕ → Number → Read Demand
+-- the power, in kW, of 1 kWh within a cycle of 4 s, of which an hour has 900
+abbrev pub kw_per_kwh : ℕ
+kw_per_kwh = 900
+
+-- n kWh over slots of the weight w in all, as the power in each of them, which has to be whole
+abbrev pub power : ℕ → ℕ → Number → ReadOrFault Demand
 power k w n =
-    if nat_lt (10_000_000 * w) (n.size * 900) then at_word k (Bounds bound.Demand)
-    else if n.size * 900 % w == 0 then in_bounds k (demand_of (value_of (record { negative = n.negative; size = n.size * 900 / w })))
+    if nat_lt (MOST_KW * w) (n.size * kw_per_kwh) then at_word k (Bounds bound.Demand)
+    else if n.size * kw_per_kwh % w == 0 then in_bounds k (demand_of (integer_of (record { negative = n.negative; size = n.size * kw_per_kwh / w })))
     else at_word k NotWholeKw
 
--- the power of the energy at k, over slots of the weight w in all
-abbrev pub energy_at : Words → ℕ → ℕ → Read Demand
+-- the power of the energy at k, in MWh with up to three decimals, over slots of the weight w in all
+abbrev pub energy_at : Words → ℕ → ℕ → ReadOrFault Demand
 energy_at ws k w = result_and_then (number_at 3 ws k part.Demand) (power k w)
 
 -- the two prices from the word k on, to the line's end, with a demand
-abbrev pub prices_after : Words → ℕ → Demand → Read Slot
+abbrev pub prices_after : Words → ℕ → Demand → ReadOrFault Slot
 prices_after ws k d =
     result_and_then (price_at ws k part.UpPrice)
     (λ up. result_and_then (price_at ws (k + 1) part.DownPrice)
@@ -90,7 +95,7 @@ prices_after ws k d =
     (λ ended. Ok (Some (record { demand = d; up = up; down = down })))))
 
 -- what the words after the slots say of each of them: unreported, or a demand in kW or in MWh over them, and prices
-abbrev pub told_by : Words → Range → Read Slot
+abbrev pub told_by : Words → Range → ReadOrFault Slot
 told_by ws r =
     if is_word ws 1 (codes "unreported") then result_and_then (end_at ws 2) (λ ended. Ok None)
     else if is_word ws 2 (codes "MWh") then result_and_then (energy_at ws 1 (weight_of_range r)) (prices_after ws 3)

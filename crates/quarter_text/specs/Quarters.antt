@@ -5,6 +5,6 @@ use Rattle.source.specs.Meanings.{Meaning}
 use Rattle.source.specs.Tables.{idle}
 use Rattle.quarter_text.specs.declared.quarter.TextQuarter.{TextQuarter}
 
--- a slot that is not named is idle
+-- the named slots are told as the text has them, and a slot that is not named is idle
 abbrev pub meaning_of : TextQuarter → Meaning
 meaning_of q = record { slots = λ k. unwrap_or (slice_index_or q.named k None) idle; zone = q.zone_net; avoided = q.avoided }

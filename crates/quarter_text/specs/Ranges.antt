@@ -5,7 +5,7 @@ use Rattle.units.specs.Chains.{result_and_then}
 use Rattle.source.specs.Products.{manual_slot, weight}
 use Rattle.source.specs.declared.product.ManualProduct.{ManualProduct}
 use Rattle.source.specs.declared.slot.TheConstants.{SLOTS}
-use Rattle.quarter_text.specs.Faults.{Read, at_word, expected_at}
+use Rattle.quarter_text.specs.Faults.{ReadOrFault, at_word, expected_at}
 use Rattle.quarter_text.specs.Numerals.{digits}
 use Rattle.quarter_text.specs.Products.{product_named}
 use Rattle.quarter_text.specs.declared.fault.Part.TheVariants as part
@@ -13,28 +13,28 @@ use Rattle.quarter_text.specs.declared.fault.Problem.TheVariants.{NoSuchSlot, Ba
 use Rattle.quarter_text.specs.declared.range.Range.{Range}
 
 -- the slots from a to b
-abbrev pub slots_from : ℕ → ℕ → Range
-slots_from a b = record { first = a; last = b }
+abbrev pub slots_from_to : ℕ → ℕ → Range
+slots_from_to a b = record { first = a; last = b }
 
--- a slot number
-abbrev pub slot_of : List ℕ → Read ℕ
+-- the slot of a number, which is one of a quarter's
+abbrev pub slot_of : List ℕ → ReadOrFault ℕ
 slot_of w = result_and_then (ok_or (digits w) (expected_at 0 part.Slots)) (λ n. if nat_lt n SLOTS then Ok n else at_word 0 NoSuchSlot)
 
--- a slot, or the first and the last of a range
-abbrev pub numbered : List ℕ → Option ℕ → Read Range
-numbered w None = result_and_then (slot_of w) (λ n. Ok (slots_from n n))
+-- one slot, or the first and the last of a range, by the place of the dash between them
+abbrev pub numbered : List ℕ → Option ℕ → ReadOrFault Range
+numbered w None = result_and_then (slot_of w) (λ n. Ok (slots_from_to n n))
 numbered w (Some k) =
     result_and_then (slot_of (take k w))
     (λ a. result_and_then (slot_of (drop (k + 1) w))
-    (λ b. if nat_le a b then Ok (slots_from a b) else at_word 0 BackwardRange))
+    (λ b. if nat_le a b then Ok (slots_from_to a b) else at_word 0 BackwardRange))
 
 -- the slot of a manual product, or else the slots that the word numbers
-abbrev pub range_by : Option ManualProduct → List ℕ → Read Range
-range_by (Some p) w = Ok (slots_from (manual_slot p) (manual_slot p))
+abbrev pub range_by : Option ManualProduct → List ℕ → ReadOrFault Range
+range_by (Some p) w = Ok (slots_from_to (manual_slot p) (manual_slot p))
 range_by None w = numbered w (position (λ b. b == 45) w)
 
 -- the slots that a word names
-abbrev pub range_of : List ℕ → Read Range
+abbrev pub range_of : List ℕ → ReadOrFault Range
 range_of w = range_by (product_named w) w
 
 -- the weights of n slots from the first on

@@ -6,7 +6,7 @@ use Rattle.quarter_text.specs.declared.fault.TextFault.{TextFault}
 use Rattle.quarter_text.specs.declared.quarter.TextQuarter.{TextQuarter}
 
 -- the quarter of the text; a refusal is its very fault, or else want of memory, after which nothing is known of the text
-abbrev pub ReadAs : Result TextQuarter TextFault → Result TextQuarter ReadFault → Type 0
-ReadAs a (Ok q) = a ≡ Ok q
-ReadAs a (Err (Text f)) = a ≡ Err f
-ReadAs a (Err Memory) = Unit {0}
+abbrev pub AnswersText : Result TextQuarter TextFault → Result TextQuarter ReadFault → Type 0
+AnswersText a (Ok q) = a ≡ Ok q
+AnswersText a (Err (Text f)) = a ≡ Err f
+AnswersText a (Err Memory) = Unit {0}

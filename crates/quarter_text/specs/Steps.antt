@@ -1,10 +1,11 @@
 -- What private functions answer.
 use Rattle.std.specs.Borrow.{Bor}
-use Rattle.std.specs.Prelude.{◌≡◌, ℕ, List, map, Ok, Err, Result}
+use Rattle.std.specs.Prelude.{◌≡◌, ℕ, min, List, map, Ok, Err, Result}
 use Rattle.units.specs.Chains.{result_and_then}
-use Rattle.quarter_text.specs.Faults.{Read}
+use Rattle.quarter_text.specs.Faults.{ReadOrFault}
 use Rattle.quarter_text.specs.Lines.{Words}
-use Rattle.quarter_text.specs.Numerals.{Number, number_of}
+use Rattle.quarter_text.specs.Numerals.{Number}
+use Rattle.quarter_text.specs.declared.decimal.TheConstants.{READ_AT_MOST}
 use Rattle.quarter_text.specs.declared.draft.Draft.{Draft}
 use Rattle.quarter_text.specs.declared.fault.ReadFault.{ReadFault}
 use Rattle.quarter_text.specs.declared.fault.ReadFault.TheVariants.{Text, Memory}
@@ -17,15 +18,23 @@ abbrev pub words_in : Line → Words
 words_in l = map (λ w. w.now) l.words.now
 
 -- the bytes of a word of the code
-abbrev pub bytes_read : Read (Bor (List ℕ)) → Read (List ℕ)
+abbrev pub bytes_read : ReadOrFault (Bor (List ℕ)) → ReadOrFault (List ℕ)
 bytes_read x = result_and_then x (λ w. Ok w.now)
 
 -- the number of a numeral of the code
-abbrev pub read_number : Read Numeral → Read Number
+abbrev pub number_of : Numeral → Number
+number_of n = record { negative = n.negative; size = n.size }
+
+-- as numerals are read: a number that is too large for every bound as one that is
+abbrev pub capped : Number → Number
+capped n = record { negative = n.negative; size = min n.size READ_AT_MOST }
+
+-- the number of a numeral of the code, or the fault in its place
+abbrev pub read_number : ReadOrFault Numeral → ReadOrFault Number
 read_number x = result_and_then x (λ n. Ok (number_of n))
 
 -- what an accepted call leaves, or its fault
-abbrev pub left : {X : Type 0} → Read (Unit {0}) → X → Read X
+abbrev pub left : {X : Type 0} → ReadOrFault (Unit {0}) → X → ReadOrFault X
 left x rest = result_and_then x (λ done. Ok rest)
 
 -- a draft with one line more, or the fault of the line

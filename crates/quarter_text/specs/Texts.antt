@@ -24,7 +24,7 @@ price_text (Some p) = euros p.cents
 abbrev pub cycles_text : ℕ → ℕ → List ℕ
 cycles_text a b = if a == b then decimal a else (decimal a ++ (45 ∷ decimal b))
 
--- the same by the product of the first
+-- the slots from a to b, by the product of the first
 abbrev pub slots_by : Result Product NoSuchSlot → ℕ → ℕ → List ℕ
 slots_by (Ok (Manual p)) a b = product_word p
 slots_by (Ok Automatic) a b = cycles_text a b
@@ -57,7 +57,7 @@ same_slot None (Some b) = false
 same_slot (Some a) None = false
 same_slot (Some a) (Some b) = int_eq a.demand.kw b.demand.kw && same_price a.up b.up && same_price a.down b.down
 
--- equal cycles that follow one another stand on one line; k is the last of such a run
+-- whether k is the last slot of its line: equal cycles that follow one another stand on one line
 unfoldable pub ends_run : (ℕ → Slot) → ℕ → Bool
 ends_run m k = nat_le CYCLES (k + 1) || not (same_slot (m k) (m (k + 1)))
 
@@ -66,7 +66,7 @@ unfoldable pub run_start : (ℕ → Slot) → ℕ → ℕ
 run_start m zero = 0
 run_start m (suc k) = if ends_run m k then suc k else run_start m k
 
--- idle slots have no line
+-- the line of the slots from a to b, of which the same is told; idle slots have none
 abbrev pub shown_run : ℕ → ℕ → Slot → List ℕ
 shown_run a b s = if same_slot s idle then [] else run_text a b s
 
@@ -83,6 +83,6 @@ lines_to m (suc k) = lines_to m k ++ line_of m k
 unfoldable pub head_text : ℤ → Option Price → List ℕ
 head_text net avoided = codes "net " ++ (signed_decimal net ++ (10 ∷ (codes "avoided " ++ (price_text avoided ++ (10 ∷ [])))))
 
--- the zone net, the avoided value, and the slots that are not idle
+-- the text of what a source means: the zone net, the avoided value, and the slots that are not idle
 unfoldable pub text_of : Meaning → List ℕ
 text_of m = head_text m.zone.kw m.avoided ++ lines_to m.slots SLOTS

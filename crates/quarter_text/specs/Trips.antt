@@ -17,5 +17,5 @@ pub record ReadsBack (m : Meaning) : Type 0 where
   pub alike : TellsSame (meaning_of quarter) m
 
 -- an accepted sheet whose text is read and written again has the same bytes
-abbrev pub SameSheet : Meaning → Type 0
-SameSheet m = (b : List ℕ) → AllByRecursion (λ x. x < 256) b → first_fault b ≡ Ok tt → TellsSame (sheet_meaning b) m → (q : TextQuarter) → quarter_of (text_of m) ≡ Ok q → sheet_bytes (meaning_of q) ≡ b
+abbrev pub SameSheetThroughText : Meaning → Type 0
+SameSheetThroughText m = (b : List ℕ) → AllByRecursion (λ x. x < 256) b → first_fault b ≡ Ok tt → TellsSame (sheet_meaning b) m → (q : TextQuarter) → quarter_of (text_of m) ≡ Ok q → sheet_bytes (meaning_of q) ≡ b

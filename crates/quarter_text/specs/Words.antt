@@ -1,27 +1,26 @@
 -- The lines of a text, and the words of a line.
-use Rattle.std.specs.Prelude.{ℕ, Bool, ◌||◌, List, length, Some, None, Option, ◌==◌, nat_lt, slice_get}
+use Rattle.std.specs.Prelude.{ℕ, Bool, ◌||◌, List, length, Option, ◌==◌, nat_lt, option_and_then, slice_get}
 use Rattle.std.specs.List.{before_first, filter, slice_split}
 
 -- a space, a tab or a carriage return
 abbrev pub is_blank : ℕ → Bool
 is_blank b = b == 32 || b == 9 || b == 13
 
--- byte 0A ends a line
+-- the lines of a text: byte 0A ends a line
 abbrev pub lines_of : List ℕ → List (List ℕ)
 lines_of text = slice_split (λ b. b == 10) text
 
--- a comment begins at the first #
+-- a line without its comment, which begins at the first #
 abbrev pub uncommented : List ℕ → List ℕ
 uncommented line = before_first (λ b. b == 35) line
 
--- words stand between blanks
+-- the words of a line, which stand between blanks
 abbrev pub words_of : List ℕ → List (List ℕ)
 words_of line = filter (λ w. nat_lt 0 (length w)) (slice_split is_blank (uncommented line))
 
 -- a word of a line, if there is such a line
 abbrev pub word_in : Option (List ℕ) → ℕ → Option (List ℕ)
-word_in None word = None
-word_in (Some line) word = slice_get (words_of line) word
+word_in line word = option_and_then (λ l. slice_get (words_of l) word) line
 
 -- the word of a line, both counted from 0, if there is one
 abbrev pub word_of : List ℕ → ℕ → ℕ → Option (List ℕ)

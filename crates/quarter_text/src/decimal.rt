@@ -2,16 +2,17 @@
 ghost use Rattle.std.specs.Prelude.{◌≡◌, ◌^◌, ◌<◌, ◌≤◌, IfSome, length, min, ◌==◌};
 ghost use Rattle.std.specs.List.{position};
 ghost use Rattle.std.specs.Option.{option_map};
-ghost use Rattle.quarter_text.specs.Numerals.{digits, magnitude};
+ghost use Rattle.quarter_text.specs.Numerals.{digits, unsigned_numeral};
+ghost use Rattle.quarter_text.specs.declared.decimal.TheConstants.{READ_AT_MOST};
 
 /// Larger numbers are read as this one. It is out of every bound.
-const MOST: u64 = 1_000_000_000_000;
+pub(crate) const READ_AT_MOST: u64 = 1_000_000_000_000;
 
 // The number that a word of digits writes.
 #[tactic(auto, using(crate::proofs::Capped::digit_more, crate::proofs::Capped::no_digit))]
 pub(crate) fn digits(word: &[u8]) -> Option<u64>
-    ensures value { result ≡ option_map (min 1_000_000_000_000) (digits word.now) }
-    ensures bound { IfSome result (λ n. n ≤ 1_000_000_000_000) }
+    ensures reads { result ≡ option_map (min READ_AT_MOST) (digits word.now) }
+    ensures bound { IfSome result (λ n. n ≤ READ_AT_MOST) }
 {
     if word.is_empty() {
         return None;
@@ -21,7 +22,7 @@ pub(crate) fn digits(word: &[u8]) -> Option<u64>
         if !byte.is_ascii_digit() {
             return None;
         }
-        number = (number * 10 + u64::from(*byte - b'0')).min(MOST);
+        number = (number * 10 + u64::from(*byte - b'0')).min(READ_AT_MOST);
     }
     Some(number)
 }
@@ -36,7 +37,7 @@ pub(crate) fn first_at(word: &[u8], wanted: u8) -> Option<usize>
 
 fn power_of_ten(places: usize) -> u64
     requires { places ≤ 3 }
-    ensures value { result ≡ 10 ^ places }
+    ensures power { result ≡ 10 ^ places }
     ensures low { 1 ≤ result }
     ensures high { result ≤ 1000 }
 {
@@ -49,14 +50,14 @@ fn power_of_ten(places: usize) -> u64
 }
 
 // The number of a numeral without a sign, where the last of so many decimals is one.
-pub(crate) fn magnitude(word: &[u8], places: usize) -> Option<u64>
+pub(crate) fn unsigned_numeral(word: &[u8], places: usize) -> Option<u64>
     requires { places ≤ 3 }
-    ensures value { result ≡ option_map (min 1_000_000_000_000) (magnitude places word.now) }
-    ensures bound { IfSome result (λ n. n ≤ 1_000_000_000_000) }
+    ensures reads { result ≡ option_map (min READ_AT_MOST) (unsigned_numeral places word.now) }
+    ensures bound { IfSome result (λ n. n ≤ READ_AT_MOST) }
 {
     let unit = power_of_ten(places);
     let Some(point) = first_at(word, b'.') else {
-        return Some((digits(word)? * unit).min(MOST));
+        return Some((digits(word)? * unit).min(READ_AT_MOST));
     };
     let whole = digits(&word[..point])?;
     let decimals = &word[point + 1..];
@@ -64,5 +65,5 @@ pub(crate) fn magnitude(word: &[u8], places: usize) -> Option<u64>
         return None;
     }
     let rest = digits(decimals)? * power_of_ten(places - decimals.len());
-    Some((whole * unit + rest).min(MOST))
+    Some((whole * unit + rest).min(READ_AT_MOST))
 }

@@ -1,20 +1,23 @@
 // Energy over slots, as the power in each of them.
 ghost use Rattle.std.specs.Prelude.{◌≡◌, ◌*◌, ◌≤◌};
 ghost use Rattle.quarter_text.specs.Lines.{power};
-ghost use Rattle.quarter_text.specs.Numerals.{number_of};
+ghost use Rattle.quarter_text.specs.Steps.{number_of};
 
 use crate::fault::{Problem, WordFault, at_word, in_bounds};
 use crate::numeral::Numeral;
 use source::{CYCLES, SLOTS};
-use units::{Demand, OutOfBounds, Quantity};
+use units::{Demand, MOST_KW, OutOfBounds, Quantity};
+
+/// The power of 1 kWh within a cycle of 4 s.
+const KW_PER_KWH: u64 = 900;
 
 // Energy over slots of this weight in all, as the demand in each of them.
 pub(crate) fn power(word: usize, weight: u64, energy: Numeral) -> Result<Demand, WordFault>
     requires { (1 ≤ weight) × (weight ≤ SLOTS * CYCLES) }
     ensures { result ≡ power word weight (number_of energy) }
 {
-    let size = energy.size * 900;
-    if size > 10_000_000 * weight {
+    let size = energy.size * KW_PER_KWH;
+    if size > u64::from(MOST_KW) * weight {
         return at_word(word, Problem::Bounds(OutOfBounds::Demand));
     }
     if size % weight != 0 {

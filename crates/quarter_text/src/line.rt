@@ -3,8 +3,7 @@ ghost use Rattle.std.specs.Prelude.{◌≡◌, ◌<◌, ◌≤◌, IfOk, Ok};
 ghost use Rattle.units.specs.Chains.{result_and_then};
 ghost use Rattle.units.specs.Quantities.{demand_of};
 ghost use Rattle.quarter_text.specs.Lines.{avoided_line, end_at, is_word, keyword, number_at, price_at, prices_after, quantity_at, range_line, told_by, word_at, zone_net_line};
-ghost use Rattle.quarter_text.specs.Numerals.{capped};
-ghost use Rattle.quarter_text.specs.Steps.{bytes_read, read_number, words_in};
+ghost use Rattle.quarter_text.specs.Steps.{bytes_read, capped, read_number, words_in};
 ghost use Rattle.quarter_text.specs.declared.fault.Part.TheVariants as part;
 
 use crate::energy::power;

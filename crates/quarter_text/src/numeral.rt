@@ -1,19 +1,21 @@
 // Numerals: digits, a point, decimals, and a minus sign.
 ghost use Rattle.std.specs.Prelude.{◌≡◌, ◌≤◌};
+ghost use Rattle.quarter_text.specs.declared.decimal.TheConstants.{READ_AT_MOST};
 
-use crate::decimal::magnitude;
+use crate::decimal::unsigned_numeral;
 
 /// A number of so many units, the least decimal being one.
 #[derive(Clone, Copy)]
 pub(crate) struct Numeral {
     pub(crate) negative: bool,
     pub(crate) size: u64,
-    ghost small: { size ≤ 1_000_000_000_000 },
+    ghost small: { size ≤ READ_AT_MOST },
 }
 
 impl Numeral {
     ghost use Rattle.std.specs.Option.{option_map};
-    ghost use Rattle.quarter_text.specs.Numerals.{capped, number_of, numeral, value_of};
+    ghost use Rattle.quarter_text.specs.Numerals.{integer_of, numeral};
+    ghost use Rattle.quarter_text.specs.Steps.{capped, number_of};
 
     /// Reads a word.
     pub(crate) fn read(word: &[u8], places: usize) -> Option<Numeral>
@@ -24,12 +26,12 @@ impl Numeral {
             [b'-', size @ ..] => (true, size),
             _ => (false, word),
         };
-        let size = magnitude(size, places)?;
+        let size = unsigned_numeral(size, places)?;
         Some(Numeral { negative, size })
     }
 
     pub(crate) fn value(self) -> i64
-        ensures { result ≡ value_of (number_of self) }
+        ensures { result ≡ integer_of (number_of self) }
     {
         if self.negative {
             -(self.size as i64)

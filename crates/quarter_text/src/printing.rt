@@ -2,7 +2,7 @@
 ghost use Rattle.std.specs.Prelude.{◌≡◌, ◌<◌, ◌++◌, IfOk, IsOkUnless, OnOk, Some, alloc_error};
 ghost use Rattle.std.specs.String.{string_bytes};
 ghost use Rattle.quarter_text.specs.Texts.{ends_run, head_text, price_text, same_slot, shown_run, slots_text, text_of, told_text};
-ghost use Rattle.quarter_text.specs.Trips.{ReadsBack, SameSheet};
+ghost use Rattle.quarter_text.specs.Trips.{ReadsBack, SameSheetThroughText};
 
 use crate::product::product_word;
 use crate::range::Range;
@@ -113,7 +113,7 @@ pub fn quarter_text<S: PriceSource>(heap: Global, source: &S) -> Result<String, 
     ensures prints { IfOk result (λ t. string_bytes t ≡ text_of (S.PriceSource.means source.now)) }
     ensures only_memory_refuses { IsOkUnless result alloc_error }
     ensures reads_back { ReadsBack (S.PriceSource.means source.now) }
-    ensures same_sheet { SameSheet (S.PriceSource.means source.now) }
+    ensures same_sheet { SameSheetThroughText (S.PriceSource.means source.now) }
 {
     let head = Head {
         zone_net: source.zone_net(),

@@ -1,7 +1,7 @@
 // The slots that a word names.
 ghost use Rattle.std.specs.Prelude.{◌≡◌, ◌*◌, ◌<◌, ◌≤◌, IfOk, ◌==◌};
 ghost use Rattle.std.specs.List.{position};
-ghost use Rattle.quarter_text.specs.Ranges.{numbered, range_of, slot_of, slots_from, weight_of_range};
+ghost use Rattle.quarter_text.specs.Ranges.{numbered, range_of, slot_of, slots_from_to, weight_of_range};
 
 use crate::decimal::{digits, first_at};
 use crate::fault::{Part, Problem, WordFault, at_word, expected};
@@ -28,7 +28,7 @@ impl Range {
     }
 
     fn one(slot: usize) -> Range
-        ensures { result ≡ slots_from slot slot }
+        ensures { result ≡ slots_from_to slot slot }
     {
         Range {
             first: slot,
@@ -39,7 +39,7 @@ impl Range {
     // The weights of the slots.
     pub(crate) fn weight(self) -> u64
         requires { (self.first ≤ self.last) × (self.last < SLOTS) }
-        ensures value { result ≡ weight_of_range self }
+        ensures weighs { result ≡ weight_of_range self }
         ensures low { 1 ≤ result }
         ensures high { result ≤ SLOTS * CYCLES }
     {

@@ -1,6 +1,6 @@
 // Reading a quarter from plain text.
 ghost use Rattle.quarter_text.specs.Drafts.{in_line, quarter_of, with_line};
-ghost use Rattle.quarter_text.specs.Reading.{ReadAs};
+ghost use Rattle.quarter_text.specs.Reading.{AnswersText};
 ghost use Rattle.quarter_text.specs.Steps.{TakenAs};
 ghost use Rattle.quarter_text.specs.Words.{words_of};
 
@@ -26,7 +26,7 @@ fn take_line(heap: Global, draft: &mut Draft, line: usize, bytes: &[u8]) -> Resu
 /// The quarter that a text of any bytes tells, or its first fault; else memory was wanting, which says nothing of
 /// the text. Nothing else refuses it.
 pub fn read_quarter(heap: Global, text: &[u8]) -> Result<TextQuarter, ReadFault>
-    ensures quarter_or_first_fault_or_memory { ReadAs (quarter_of text.now) result }
+    ensures quarter_or_first_fault_or_memory { AnswersText (quarter_of text.now) result }
 {
     let mut draft = Draft::blank();
     let lines = lines_of(heap, text)?;
