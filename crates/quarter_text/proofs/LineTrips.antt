@@ -8,7 +8,7 @@ use Rattle.std.specs.Fmt.{signed_decimal}
 use Rattle.std.specs.List.{position}
 use Rattle.std.specs.Str.{bytes_eq}
 use Rattle.source.specs.Slots.{Slot}
-use Rattle.source.specs.declared.product.TheConstants.{CYCLES}
+use Rattle.source.specs.declared.product.TheConstants.{CYCLES, SCHEDULED, DIRECT_UP, DIRECT_DOWN}
 use Rattle.units.proofs.Made.{demand_made, price_made, zone_net_made}
 use Rattle.units.specs.Quantities.{demand_of, price_of, zone_net_of}
 use Rattle.units.specs.Text.{euros}
@@ -172,15 +172,15 @@ cycles_read a b false e c l m =
 pub slots_read : (a b : ℕ) → OneLine a b → SlotsRead a b
 slots_read a b o =
     ⊎_elim
-    (λ (e : a ≡ CYCLES). manual_read a b (o.manual (omega (arith, e))) (rw e (record { bytes = refl; some = omega arith })) (λ ws. rw e refl))
-    (λ (x : a ≡ CYCLES → ⊥). ⊎_elim
-    (λ (e : a ≡ 226). manual_read a b (o.manual (omega (arith, e))) (rw e (record { bytes = refl; some = omega arith })) (λ ws. rw e refl))
-    (λ (y : a ≡ 226 → ⊥). ⊎_elim
-    (λ (e : a ≡ 227). manual_read a b (o.manual (omega (arith, e))) (rw e (record { bytes = refl; some = omega arith })) (λ ws. rw e refl))
-    (λ (z : a ≡ 227 → ⊥). cycles_read a b (a == b) refl (lt-ltb a CYCLES (omega (arith, x, y, z, o.order, o.within))) o.order o.within)
-    (cases_eq a 227))
-    (cases_eq a 226))
-    (cases_eq a CYCLES)
+    (λ (e : a ≡ SCHEDULED). manual_read a b (o.manual (omega (arith, e))) (rw e (record { bytes = refl; some = omega arith })) (λ ws. rw e refl))
+    (λ (x : a ≡ SCHEDULED → ⊥). ⊎_elim
+    (λ (e : a ≡ DIRECT_UP). manual_read a b (o.manual (omega (arith, e))) (rw e (record { bytes = refl; some = omega arith })) (λ ws. rw e refl))
+    (λ (y : a ≡ DIRECT_UP → ⊥). ⊎_elim
+    (λ (e : a ≡ DIRECT_DOWN). manual_read a b (o.manual (omega (arith, e))) (rw e (record { bytes = refl; some = omega arith })) (λ ws. rw e refl))
+    (λ (z : a ≡ DIRECT_DOWN → ⊥). cycles_read a b (a == b) refl (lt-ltb a CYCLES (omega (arith, x, y, z, o.order, o.within))) o.order o.within)
+    (cases_eq a DIRECT_DOWN))
+    (cases_eq a DIRECT_UP))
+    (cases_eq a SCHEDULED)
 
 -- THE WORDS OF THE HEAD
 
