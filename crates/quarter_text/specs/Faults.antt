@@ -20,7 +20,7 @@ fault_at k p = record { word = k; problem = p }
 abbrev pub expected_at : ℕ → Part → WordFault
 expected_at k p = fault_at k (Expected p)
 
--- the word at k is refused
+-- the word at k is refused, for this problem
 abbrev pub at_word : {X : Type 0} → ℕ → Problem → ReadOrFault X
 at_word k p = Err (fault_at k p)
 

@@ -75,7 +75,7 @@ range_line ws = result_and_then (word_at ws 0 part.Slots) range_of
 abbrev pub kw_per_kwh : ℕ
 kw_per_kwh = 900
 
--- n kWh over slots of the weight w in all, as the power in each of them, which has to be whole
+-- n kWh over slots that weigh w in all, a cycle 1 and a manual slot 225, as the power in each of them, which has to be whole
 abbrev pub power : ℕ → ℕ → Number → ReadOrFault Demand
 power k w n =
     if nat_lt (MOST_KW * w) (n.size * kw_per_kwh) then at_word k (Bounds bound.Demand)

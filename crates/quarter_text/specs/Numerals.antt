@@ -3,11 +3,12 @@ use Rattle.std.specs.Prelude.{ℕ, ◌+◌, ◌-◌, ◌*◌, ◌^◌, Bool, tru
 use Rattle.std.specs.Char.{is_ascii_digit}
 use Rattle.std.specs.List.{position}
 use Rattle.std.specs.Option.{option_map}
+use Rattle.quarter_text.specs.Marks.{dash, digit_zero, point}
 
 -- the number that digits write when they follow those of n
 abbrev pub digits_after : ℕ → List ℕ → Option ℕ
 digits_after n [] = Some n
-digits_after n (b ∷ w) = if is_ascii_digit b then digits_after (n * 10 + (b - 48)) w else None
+digits_after n (b ∷ w) = if is_ascii_digit b then digits_after (n * 10 + (b - digit_zero)) w else None
 
 -- the number of a word of digits, one at least
 abbrev pub digits : List ℕ → Option ℕ
@@ -29,9 +30,9 @@ by_point places w (Some k) = with_decimals places (digits (take k w)) (drop (k +
 
 -- the number of a numeral without a sign, in units of its last place: with two places, 1.5 is 150
 abbrev pub unsigned_numeral : ℕ → List ℕ → Option ℕ
-unsigned_numeral places w = by_point places w (position (λ b. b == 46) w)
+unsigned_numeral places w = by_point places w (position (λ b. b == point) w)
 
--- the number of a numeral: below zero where a minus sign stands before it, and its size
+-- the number of a numeral: whether a minus sign stands before it, and its size
 pub record Number : Type 0 where
   pub negative : Bool
   pub size : ℕ
@@ -43,7 +44,7 @@ with_sign negative size = option_map (λ n. record { negative = negative; size =
 -- the number of a word, in units of the last of so many places
 abbrev pub numeral : ℕ → List ℕ → Option Number
 numeral places [] = None
-numeral places (b ∷ w) = if b == 45 then with_sign true (unsigned_numeral places w) else with_sign false (unsigned_numeral places (b ∷ w))
+numeral places (b ∷ w) = if b == dash then with_sign true (unsigned_numeral places w) else with_sign false (unsigned_numeral places (b ∷ w))
 
 -- the number as a whole one, with its sign
 abbrev pub integer_of : Number → ℤ

@@ -5,6 +5,7 @@ use Rattle.units.specs.Chains.{result_and_then}
 use Rattle.source.specs.Products.{manual_slot, weight}
 use Rattle.source.specs.declared.product.ManualProduct.{ManualProduct}
 use Rattle.source.specs.declared.slot.TheConstants.{SLOTS}
+use Rattle.quarter_text.specs.Marks.{dash}
 use Rattle.quarter_text.specs.Faults.{ReadOrFault, at_word, expected_at}
 use Rattle.quarter_text.specs.Numerals.{digits}
 use Rattle.quarter_text.specs.Products.{product_named}
@@ -31,7 +32,7 @@ numbered w (Some k) =
 -- the slot of a manual product, or else the slots that the word numbers
 abbrev pub range_by : Option ManualProduct → List ℕ → ReadOrFault Range
 range_by (Some p) w = Ok (slots_from_to (manual_slot p) (manual_slot p))
-range_by None w = numbered w (position (λ b. b == 45) w)
+range_by None w = numbered w (position (λ b. b == dash) w)
 
 -- the slots that a word names
 abbrev pub range_of : List ℕ → ReadOrFault Range

@@ -13,6 +13,7 @@ use Rattle.source.specs.declared.slot.NoSuchSlot.{NoSuchSlot}
 use Rattle.source.specs.declared.slot.TheConstants.{SLOTS}
 use Rattle.units.specs.Text.{euros}
 use Rattle.units.specs.declared.price.Price.{Price}
+use Rattle.quarter_text.specs.Marks.{dash, line_end, space}
 use Rattle.quarter_text.specs.Products.{product_word}
 
 -- euros, or a - where there is no price
@@ -22,7 +23,7 @@ price_text (Some p) = euros p.cents
 
 -- the number of a cycle, or of the first and the last of a range
 abbrev pub cycles_text : ℕ → ℕ → List ℕ
-cycles_text a b = if a == b then decimal a else (decimal a ++ (45 ∷ decimal b))
+cycles_text a b = if a == b then decimal a else (decimal a ++ (dash ∷ decimal b))
 
 -- the slots from a to b, by the product of the first
 abbrev pub slots_by : Result Product NoSuchSlot → ℕ → ℕ → List ℕ
@@ -37,11 +38,11 @@ slots_text a b = slots_by (product_of a) a b
 -- what is told of a slot
 abbrev pub told_text : Slot → List ℕ
 told_text None = codes "unreported"
-told_text (Some r) = signed_decimal r.demand.kw ++ (32 ∷ (price_text r.up ++ (32 ∷ price_text r.down)))
+told_text (Some r) = signed_decimal r.demand.kw ++ (space ∷ (price_text r.up ++ (space ∷ price_text r.down)))
 
 -- the line of the slots from a to b
 abbrev pub run_text : ℕ → ℕ → Slot → List ℕ
-run_text a b s = slots_text a b ++ (32 ∷ (told_text s ++ (10 ∷ [])))
+run_text a b s = slots_text a b ++ (space ∷ (told_text s ++ (line_end ∷ [])))
 
 -- whether two prices are the same
 abbrev pub same_price : Option Price → Option Price → Bool
@@ -81,7 +82,7 @@ lines_to m (suc k) = lines_to m k ++ line_of m k
 
 -- the lines of the zone net and the avoided value
 unfoldable pub head_text : ℤ → Option Price → List ℕ
-head_text net avoided = codes "net " ++ (signed_decimal net ++ (10 ∷ (codes "avoided " ++ (price_text avoided ++ (10 ∷ [])))))
+head_text net avoided = codes "net " ++ (signed_decimal net ++ (line_end ∷ (codes "avoided " ++ (price_text avoided ++ (line_end ∷ [])))))
 
 -- the text of what a source means: the zone net, the avoided value, and the slots that are not idle
 unfoldable pub text_of : Meaning → List ℕ

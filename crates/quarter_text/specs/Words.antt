@@ -1,18 +1,19 @@
 -- The lines of a text, and the words of a line.
 use Rattle.std.specs.Prelude.{ℕ, Bool, ◌||◌, List, length, Option, ◌==◌, nat_lt, option_and_then, slice_get}
 use Rattle.std.specs.List.{before_first, filter, slice_split}
+use Rattle.quarter_text.specs.Marks.{carriage_return, hash, line_end, space, tab}
 
 -- a space, a tab or a carriage return
 abbrev pub is_blank : ℕ → Bool
-is_blank b = b == 32 || b == 9 || b == 13
+is_blank b = b == space || b == tab || b == carriage_return
 
 -- the lines of a text: byte 0A ends a line
 abbrev pub lines_of : List ℕ → List (List ℕ)
-lines_of text = slice_split (λ b. b == 10) text
+lines_of text = slice_split (λ b. b == line_end) text
 
 -- a line without its comment, which begins at the first #
 abbrev pub uncommented : List ℕ → List ℕ
-uncommented line = before_first (λ b. b == 35) line
+uncommented line = before_first (λ b. b == hash) line
 
 -- the words of a line, which stand between blanks
 abbrev pub words_of : List ℕ → List (List ℕ)

@@ -1,6 +1,7 @@
 // The slots that a word names.
 ghost use Rattle.std.specs.Prelude.{◌≡◌, ◌*◌, ◌<◌, ◌≤◌, IfOk, ◌==◌};
 ghost use Rattle.std.specs.List.{position};
+ghost use Rattle.quarter_text.specs.Marks.{dash};
 ghost use Rattle.quarter_text.specs.Ranges.{numbered, range_of, slot_of, slots_from_to, weight_of_range};
 
 use crate::decimal::{digits, first_at};
@@ -64,7 +65,7 @@ fn slot_of(word: &[u8]) -> Result<usize, WordFault>
 
 // A slot, or the first and the last of a range.
 fn numbered(word: &[u8]) -> Result<Range, WordFault>
-    ensures reads { result ≡ numbered word.now (position (λ b. b == 45) word.now) }
+    ensures reads { result ≡ numbered word.now (position (λ b. b == dash) word.now) }
     ensures within { IfOk result (λ r. (r.first ≤ r.last) × (r.last < SLOTS)) }
 {
     let Some(dash) = first_at(word, b'-') else {

@@ -43,6 +43,6 @@ avoided_at s at = if nat_lt at (length s) then by_flag s at (slice_index s at) e
 unfoldable pub head_of : List ℕ → Result Head SheetFault
 head_of s =
     result_and_then (opens 0 opening s)
-    (λ opened. result_and_then (in_head (quantity zone_net_of front s 4))
+    (λ opened. result_and_then (in_head (quantity zone_net_of front s (length opening)))
     (λ net. result_and_then (avoided_at s net.1)
     (λ avoided. Ok (record { zone_net = net.0; avoided = avoided.0; end = avoided.1 }))))

@@ -22,7 +22,7 @@ abbrev pub groups_fault : Spot → List ℕ → ℕ → GroupsFault → NumberFa
 groups_fault p s from gf.Ends = nf.Ends (ahead p (length s))
 groups_fault p s from gf.Form = nf.Form (ahead p from)
 
--- the number that begins at the byte from of s: its groups, and the quantity that they make unless it is out of bounds
+-- the number that begins at the byte from of s, where s begins at the spot p: its groups, and the quantity that is made of them unless it is out of bounds
 unfoldable pub quantity : {Q : Type 0} → (ℤ → Result Q OutOfBounds) → Spot → List ℕ → ℕ → Number Q
 quantity made p s from =
     result_and_then (result_map_err (groups (drop from s)) (groups_fault p s from))
