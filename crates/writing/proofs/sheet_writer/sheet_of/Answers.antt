@@ -12,7 +12,7 @@ loop-slot-init g c =
     let q = c.put_quantity.ensures in
     let p = c.put_avoided.ensures in
     record {
-      written = head_put m c.loop-byte.byte-index c.zone_net.result c.avoided.result c.loop-byte.sheet.items _ _ i c.zone_net.ensures c.avoided.ensures c.loop-byte.invariant q.bytes p.bytes;
+      written = head_put m c.loop-byte.byte-index c.zone_net.result c.avoided.result c.loop-byte.sheet.items c.put_quantity.new.out.items c.put_avoided.new.out.items i c.zone_net.ensures c.avoided.ensures c.loop-byte.invariant q.bytes p.bytes;
       room = omega (arith, n, q.len, p.len);
     }
 
