@@ -1,5 +1,5 @@
 -- One slot more.
-use Rattle.std.proofs.Common.{◌≡◌, ℕ, zero, suc, ◌+◌, ◌*◌, ◌≤◌, true, ℤ, ◌≤ℤ◌, nat_abs, Some, None, Option, refl, sym, ap, ◌∙◌, subst, add-one, arith}
+use Rattle.std.proofs.Common.{◌≡◌, ℕ, zero, suc, ◌+◌, ◌*◌, ◌≤◌, ℤ, ◌≤ℤ◌, nat_abs, IsSome, Some, None, Option, refl, sym, ap, ◌∙◌, subst, add-one, arith}
 use borrow.Author.Differences.{ints}
 use Rattle.source.specs.Meanings.{Meaning}
 use Rattle.source.specs.Products.{weight}
@@ -11,7 +11,7 @@ use Rattle.units.specs.declared.price.Price.{Price}
 use Rattle.units.specs.declared.zone_net.ZoneNet.{ZoneNet}
 use Rattle.units.specs.declared.bounds.TheConstants.{MOST_CENTS}
 use Rattle.figures.specs.steps.Bounds.{most_net, most_volume}
-use Rattle.figures.specs.Counting.{counted_of, formed_of, reported}
+use Rattle.figures.specs.Counting.{counted_of, formed_of}
 use Rattle.figures.specs.Sides.{SourceGives, ReportedTo, Slots, net_to, formed_to, totals_to, totals_with, manual_at}
 use Rattle.figures.specs.steps.Gathering.{side_from}
 use Rattle.figures.specs.Spans.{greater, lesser, lowest_cents, highest_cents, span_with, widened}
@@ -117,7 +117,7 @@ module _ (m : Slots) (k : ℕ) (w : Weighed) (is : Is m k w) where
   pub manual_is : (d : Direction) → manual d w ≡ manual_at d m k
   manual_is d = grind arith
 
-  pub is_reported : reported (m k) ≡ true
+  pub is_reported : IsSome (m k)
   is_reported = grind arith
 
 -- ---- room

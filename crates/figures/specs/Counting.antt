@@ -1,5 +1,5 @@
 -- Which slots count in a direction, with which volume and price.
-use Rattle.std.specs.Prelude.{◌≡◌, ℕ, zero, suc, ◌*◌, ◌≤◌, Bool, true, false, ℤ, pos, is_some, Some, None, Option}
+use Rattle.std.specs.Prelude.{ℕ, zero, suc, ◌*◌, ◌≤◌, ℤ, pos, IsSome, Some, None, Option}
 use borrow.Author.Differences.{up, down}
 use Rattle.source.specs.Slots.{formed, Slot}
 use Rattle.source.specs.declared.direction.Direction.{Direction}
@@ -7,11 +7,6 @@ use Rattle.source.specs.declared.direction.Direction.TheVariants.{Up, Down}
 use Rattle.source.specs.declared.slot.Reading.{Reading}
 use Rattle.units.specs.declared.price.Price.{Price}
 use Rattle.figures.specs.declared.side.Activation.{Activation}
-
--- whether a slot is reported
-abbrev pub reported : Slot → Bool
-reported None = false
-reported (Some r) = true
 
 -- the demand of a slot in kW, up positive; 0 where it is unreported
 abbrev pub kw_of : Slot → ℤ
@@ -31,7 +26,7 @@ formed_of d (Some r) = formed d r
 -- a slot counts in a direction: its demand is in that direction, and its price is formed
 abbrev pub Counts : Direction → Slot → Type 0
 Counts d None = ⊥
-Counts d (Some r) = (1 ≤ demand_in d r) × (is_some (formed d r) ≡ true)
+Counts d (Some r) = (1 ≤ demand_in d r) × IsSome (formed d r)
 
 -- of a weight, a demand in the direction and its price: the volume at that price, where the demand is above 0 and the price formed
 abbrev pub activation : ℕ → ℕ → Option Price → Option Activation

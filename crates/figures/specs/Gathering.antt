@@ -1,5 +1,5 @@
 -- Whether a source gives figures, and which.
-use Rattle.std.specs.Prelude.{◌≡◌, ℕ, ◌<◌, ◌≤◌, Ok, Err, Result, None}
+use Rattle.std.specs.Prelude.{◌≡◌, ℕ, ◌<◌, ◌≤◌, ◌↔◌, IfOk, Ok, Err, Result, None}
 use Rattle.source.specs.Meanings.{Meaning}
 use Rattle.source.specs.declared.direction.Direction.{Direction}
 use Rattle.source.specs.declared.slot.TheConstants.{SLOTS}
@@ -30,5 +30,4 @@ SomeCounts d m = (k : ℕ) × (k < SLOTS) × Counts d (m k)
 
 -- V is above 0 in a direction exactly where some slot counts in it
 abbrev pub VolumeShowsCounting : Slots → Result Figures UnreportedSlot → Type 0
-VolumeShowsCounting m (Ok f) = (d : Direction) → (1 ≤ volume (side_in d f) → SomeCounts d m) × (SomeCounts d m → 1 ≤ volume (side_in d f))
-VolumeShowsCounting m (Err e) = Unit {0}
+VolumeShowsCounting m r = IfOk r (λ f. (d : Direction) → (1 ≤ volume (side_in d f)) ↔ SomeCounts d m)

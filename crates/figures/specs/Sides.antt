@@ -1,5 +1,5 @@
 -- The figures that the slots of a quarter give.
-use Rattle.std.specs.Prelude.{◌≡◌, ℕ, zero, suc, ◌+◌, ◌<◌, true, ℤ, pos, ◌+ℤ◌, ◌*ℤ◌, Some, None, Option}
+use Rattle.std.specs.Prelude.{◌≡◌, ℕ, zero, suc, ◌+◌, ◌<◌, ℤ, pos, ◌+ℤ◌, ◌*ℤ◌, IsSome, Some, None, Option}
 use Rattle.source.specs.Meanings.{Meaning}
 use Rattle.source.specs.Products.{manual_slot, weight}
 use Rattle.source.specs.declared.direction.Direction.{Direction}
@@ -10,7 +10,7 @@ use Rattle.source.specs.declared.slot.TheConstants.{SLOTS}
 use Rattle.source.specs.Slots.{Slot}
 use Rattle.units.specs.declared.price.Price.{Price}
 use Rattle.units.specs.declared.zone_net.ZoneNet.{ZoneNet}
-use Rattle.figures.specs.Counting.{reported, kw_of, counted_of, formed_of}
+use Rattle.figures.specs.Counting.{kw_of, counted_of, formed_of}
 use Rattle.figures.specs.Spans.{widened, span_with}
 use Rattle.figures.specs.declared.side.Activation.{Activation}
 use Rattle.figures.specs.declared.side.Manual.{Manual}
@@ -24,7 +24,7 @@ Slots = ℕ → Slot
 
 -- the first n slots are reported
 abbrev pub ReportedTo : Slots → ℕ → Type 0
-ReportedTo m n = (k : ℕ) → k < n → reported (m k) ≡ true
+ReportedTo m n = (k : ℕ) → k < n → IsSome (m k)
 
 -- the sum of demand times weight over the first n slots
 unfoldable pub net_to : Slots → ℕ → ℤ

@@ -1,5 +1,5 @@
 -- Between which prices a quote lies.
-use Rattle.std.specs.Prelude.{◌≡◌, true, ℤ, pos, ◌+ℤ◌, ◌-ℤ◌, ◌*ℤ◌, ◌≤ℤ◌, is_some, Some, Ok, Err}
+use Rattle.std.specs.Prelude.{◌≡◌, ℤ, pos, ◌+ℤ◌, ◌-ℤ◌, ◌*ℤ◌, ◌≤ℤ◌, IfOk, IsSome, Some}
 use Rattle.figures.specs.Components.{turnover, volume}
 use Rattle.figures.specs.Gathering.{AreFiguresOf}
 use Rattle.figures.specs.Spans.{lowest_cents, highest_cents}
@@ -21,7 +21,7 @@ HalfCentFromMean dir.Down s p = (((p *ℤ pos 2) -ℤ pos 1) *ℤ pos (volume s)
 
 -- a price is formed in the direction, p cents lie between the lowest and the highest such, and are at most half a cent less extreme than the weighted mean
 pub record IsBounded (d : Direction) (s : Side) (p : ℤ) : Type 0 where
-  pub formed : is_some s.formed ≡ true
+  pub formed : IsSome s.formed
   pub low : lowest_cents s.formed ≤ℤ p
   pub high : p ≤ℤ highest_cents s.formed
   pub mean : HalfCentFromMean d s p
@@ -34,8 +34,7 @@ IsBoundedIn Avoided f p = f.avoided ≡ Some p
 
 -- an answer for figures: where it is a quote, that lies in its bounds
 abbrev pub IsBoundedQuote : Figures → Answer → Type 0
-IsBoundedQuote f (Ok q) = IsBoundedIn q.direction f q.price
-IsBoundedQuote f (Err e) = Unit {0}
+IsBoundedQuote f a = IfOk a (λ q. IsBoundedIn q.direction f q.price)
 
 -- a quote lies in the bounds of the figures that a source gives
 pub record IsBoundedByFigures (m : Meaning) (q : Quote) : Type 0 where
@@ -45,5 +44,4 @@ pub record IsBoundedByFigures (m : Meaning) (q : Quote) : Type 0 where
 
 -- an answer for a source: where it is a quote, that lies in its bounds
 abbrev pub IsBoundedQuoteOfSource : Meaning → Answer → Type 0
-IsBoundedQuoteOfSource m (Ok q) = IsBoundedByFigures m q
-IsBoundedQuoteOfSource m (Err e) = Unit {0}
+IsBoundedQuoteOfSource m a = IfOk a (IsBoundedByFigures m)

@@ -1,5 +1,5 @@
 -- The four laws that every rulebook keeps, for all figures that 228 reported slots can give.
-use Rattle.std.specs.Prelude.{◌≡◌, ◌≤◌, true, ℤ, pos, ◌*ℤ◌, ◌≤ℤ◌, ◌<ℤ◌, is_some, Some, Option, ◌≢◌}
+use Rattle.std.specs.Prelude.{◌≡◌, ◌≤◌, ⊤, ℤ, pos, ◌*ℤ◌, ◌≤ℤ◌, ◌<ℤ◌, IsSome, Some, Option, ◌≢◌}
 use Rattle.figures.specs.Components.{side_in, turnover, volume}
 use Rattle.figures.specs.Gathering.{AreFiguresOf, SomeCounts}
 use Rattle.figures.specs.Spans.{lowest_cents, highest_cents}
@@ -16,7 +16,7 @@ use Rattle.pricing.specs.declared.ruling.Net.{Net}
 
 -- 1: a deciding net of 0 gives avoided, one above 0 up or avoided, one below 0 down or avoided
 abbrev pub IsInNetsDirection : ℤ → Outcome → Type 0
-IsInNetsDirection z avoided = Unit {0}
+IsInNetsDirection z avoided = ⊤
 IsInNetsDirection z (directed Up q) = pos 0 <ℤ z
 IsInNetsDirection z (directed Down q) = z <ℤ pos 0
 
@@ -26,7 +26,7 @@ IsNotAvoidedWhereCounting z f o = (m : Meaning) (d : Direction) → AreFiguresOf
 
 -- a price is formed, the denominator D is from 1 to 9,000,000,000, and N / D lies between the lowest and the highest price formed
 pub record LiesWithin (f : Option Span) (q : Exact) : Type 0 where
-  pub formed : is_some f ≡ true
+  pub formed : IsSome f
   pub divides : 1 ≤ q.d
   pub bounded_denominator : q.d ≤ MOST_DENOMINATOR
   pub low : (lowest_cents f *ℤ pos q.d) ≤ℤ q.n
@@ -34,7 +34,7 @@ pub record LiesWithin (f : Option Span) (q : Exact) : Type 0 where
 
 -- 3: where a direction is given, its price comes from the prices formed in it
 abbrev pub IsFromFormed : Figures → Outcome → Type 0
-IsFromFormed f avoided = Unit {0}
+IsFromFormed f avoided = ⊤
 IsFromFormed f (directed d q) = LiesWithin (side_in d f).formed q
 
 -- a is no more extreme than b: at most as great for up, at least as great for down
@@ -44,7 +44,7 @@ IsNoMoreExtreme Down a b = b ≤ℤ a
 
 -- 4: the price is no less extreme than the weighted mean: S × D is at most N × V for up, at least for down
 abbrev pub IsNoLessExtremeThanMean : Figures → Outcome → Type 0
-IsNoLessExtremeThanMean f avoided = Unit {0}
+IsNoLessExtremeThanMean f avoided = ⊤
 IsNoLessExtremeThanMean f (directed d q) = IsNoMoreExtreme d (turnover (side_in d f) *ℤ pos q.d) (q.n *ℤ pos (volume (side_in d f)))
 
 -- the four laws, for the outcome that a rulebook with this deciding net has for the figures

@@ -18,7 +18,7 @@ use Rattle.units.specs.Exact.{exact_of_price}
 use Rattle.units.specs.declared.bounds.TheConstants.{MOST_DENOMINATOR}
 use Rattle.units.specs.declared.price.Price.{Price}
 use Rattle.pricing.specs.FourLaws.{LiesWithin}
-use Rattle.pricing.specs.laws.Reach.{OnSome, extreme_keeps}
+use Rattle.pricing.specs.laws.Reach.{WhereExists, extreme_keeps}
 use Rattle.pricing.specs.laws.Covers.{no_turnover}
 
 -- x / v lies between the least and the greatest price of f, also where v and x are 0
@@ -71,16 +71,16 @@ pub volume_formed : (s : Side) → Sound s → 1 ≤ volume s → is_some s.form
 volume_formed s h k = by_part _ s k (cycles_formed s h) (manual_formed_lem _ s.scheduled h.1) (manual_formed_lem _ s.direct_up h.2) (manual_formed_lem _ s.direct_down h.3)
 
 -- ---- the components
-pub quotient_fits : (f : Option Span) (x : ℤ) (v : ℕ) → (1 ≤ v → is_some f ≡ true) → v ≤ MOST_DENOMINATOR → Lies f x v → OnSome (LiesWithin f) (quotient x v)
+pub quotient_fits : (f : Option Span) (x : ℤ) (v : ℕ) → (1 ≤ v → is_some f ≡ true) → v ≤ MOST_DENOMINATOR → Lies f x v → WhereExists (LiesWithin f) (quotient x v)
 quotient_fits f x v some few l =
-    cond_both (nat_lt 0 v) (Some (record { n = x; d = v })) None (OnSome (LiesWithin f))
+    cond_both (nat_lt 0 v) (Some (record { n = x; d = v })) None (WhereExists (LiesWithin f))
     (λ e. let k : 1 ≤ v = ltb-true 0 v e in record { formed = some k; divides = k; bounded_denominator = few; low = l.0; high = l.1 })
     (λ e. tt)
 
-pub mean_fits : (s : Side) → Sound s → OnSome (LiesWithin s.formed) (weighted_mean s)
+pub mean_fits : (s : Side) → Sound s → WhereExists (LiesWithin s.formed) (weighted_mean s)
 mean_fits s h = quotient_fits s.formed (turnover s) (volume s) (volume_formed s h) (omega (arith, h.0.0, h.1.0, h.2.0, h.3.0)) (turnover_lies s h)
 
-pub automatic_fits : (s : Side) → Sound s → OnSome (LiesWithin s.formed) (automatic_mean s)
+pub automatic_fits : (s : Side) → Sound s → WhereExists (LiesWithin s.formed) (automatic_mean s)
 automatic_fits s h =
     quotient_fits s.formed s.cycles.turnover s.cycles.volume (cycles_formed s h) (omega (arith, h.0.0))
     (cycles_lies _ s.formed s.cycles.volume s.cycles.turnover s.cycles.span h.0)
@@ -88,24 +88,24 @@ automatic_fits s h =
 whole_fits : (f : Option Span) (p : Price) → Between f p.cents → LiesWithin f (exact_of_price p)
 whole_fits f p b = record { formed = b.0; divides = omega arith; bounded_denominator = omega arith; low = omega (arith, ints, b.1); high = omega (arith, ints, b.2) }
 
-price_fits : (f : Option Span) (o : Option Price) → (is_some o ≡ true → Between f (cents_of o)) → OnSome (LiesWithin f) (option_map exact_of_price o)
+price_fits : (f : Option Span) (o : Option Price) → (is_some o ≡ true → Between f (cents_of o)) → WhereExists (LiesWithin f) (option_map exact_of_price o)
 price_fits f None h = tt
 price_fits f (Some p) h = whole_fits f p (h refl)
 
-pub formed_fits : (f : Option Span) (m : Manual) → ManualSound f m → OnSome (LiesWithin f) (formed_price m)
+pub formed_fits : (f : Option Span) (m : Manual) → ManualSound f m → WhereExists (LiesWithin f) (formed_price m)
 formed_fits f m s = price_fits f m.price s.2
 
-pub counting_fits : (f : Option Span) (m : Manual) → ManualSound f m → OnSome (LiesWithin f) (counting_price m)
-counting_fits f m s = cond_both (nat_lt 0 m.volume) (formed_price m) None (OnSome (LiesWithin f)) (λ e. formed_fits f m s) (λ e. tt)
+pub counting_fits : (f : Option Span) (m : Manual) → ManualSound f m → WhereExists (LiesWithin f) (counting_price m)
+counting_fits f m s = cond_both (nat_lt 0 m.volume) (formed_price m) None (WhereExists (LiesWithin f)) (λ e. formed_fits f m s) (λ e. tt)
 
-span_fits : (d : Direction) (f o : Option Span) → (is_some o ≡ true → Between f (lowest_cents o) × Between f (highest_cents o)) → OnSome (LiesWithin f) (option_map (extreme_of_span d) o)
+span_fits : (d : Direction) (f o : Option Span) → (is_some o ≡ true → Between f (lowest_cents o) × Between f (highest_cents o)) → WhereExists (LiesWithin f) (option_map (extreme_of_span d) o)
 span_fits d f None h = tt
 span_fits Up f (Some p) h = whole_fits f p.highest (h refl).1
 span_fits Down f (Some p) h = whole_fits f p.lowest (h refl).0
 
-pub cycles_fit : (d : Direction) (s : Side) → Sound s → OnSome (LiesWithin s.formed) (cycles_extreme d s)
+pub cycles_fit : (d : Direction) (s : Side) → Sound s → WhereExists (LiesWithin s.formed) (cycles_extreme d s)
 cycles_fit d s h = span_fits d s.formed s.cycles.span h.0.2
 
-pub over_fits : (price : Manual → Component) (d : Direction) (s : Side) → ((m : Manual) → ManualSound s.formed m → OnSome (LiesWithin s.formed) (price m)) → Sound s → OnSome (LiesWithin s.formed) (manual_extreme price d s)
+pub over_fits : (price : Manual → Component) (d : Direction) (s : Side) → ((m : Manual) → ManualSound s.formed m → WhereExists (LiesWithin s.formed) (price m)) → Sound s → WhereExists (LiesWithin s.formed) (manual_extreme price d s)
 over_fits price d s p h =
     extreme_keeps (LiesWithin s.formed) d _ _ (p s.scheduled h.1) (extreme_keeps (LiesWithin s.formed) d _ _ (p s.direct_up h.2) (p s.direct_down h.3))

@@ -1,6 +1,6 @@
 -- Each rule of price of the table keeps the laws, and so does a rulebook that goes by one.
-use Rattle.std.specs.Prelude.{◌≡◌, ℕ, zero, suc, ◌≤◌, Bool, true, false, cond, ◌||◌, T, ℤ, pos, ◌+ℤ◌, ◌*ℤ◌, ◌<ℤ◌, is_some, Some, None, Option, ◌≢◌, int_lt, nat_lt, refl}
-use Rattle.std.proofs.Common.{sym, ap, subst, ◌∙◌, arith}
+use Rattle.std.specs.Prelude.{◌≡◌, ℕ, zero, suc, ◌≤◌, Bool, true, false, if◌then◌else◌, ◌||◌, ℤ, pos, ◌+ℤ◌, ◌*ℤ◌, ◌<ℤ◌, is_some, Some, None, Option, ◌≢◌, int_lt, nat_lt, refl}
+use Rattle.std.proofs.Common.{ap, subst, ◌∙◌, arith}
 use Rattle.std.proofs.lemmas.Int.{ints}
 use Rattle.std.proofs.lemmas.Bool.{cond_both, cond-true, lt-ltb, ltb-false, or_parts}
 use Rattle.std.specs.Option.{option_map}
@@ -22,17 +22,17 @@ use Rattle.pricing.specs.Rulings.{PriceRule, automatic_or_manual, by_net, extrem
 use Rattle.pricing.specs.declared.ruling.Net.{Net}
 use Rattle.pricing.specs.laws.Covers.{Covers, covers_add, covers_cycles, covers_manual, covers_none, covers_quotient, no_turnover}
 use Rattle.pricing.specs.laws.Fits.{automatic_fits, counting_fits, cycles_fit, formed_fits, mean_fits, over_fits}
-use Rattle.pricing.specs.laws.Reach.{OnSome, Positive, Tops, extreme_first, extreme_keeps, extreme_second, extreme_tops, tops_parts, tops_self}
+use Rattle.pricing.specs.laws.Reach.{WhereExists, Positive, Tops, extreme_first, extreme_keeps, extreme_second, extreme_tops, tops_parts, tops_self}
 
 -- the price exists where something counts, comes from formed prices, and is as extreme as the weighted mean
 pub record IsLawfulRule (price : PriceRule) : Type 0 where
   pub exists : (d : Direction) (s : Side) → Sound s → 1 ≤ volume s → is_some (price d s) ≡ true
-  pub fits : (d : Direction) (s : Side) → Sound s → OnSome (LiesWithin s.formed) (price d s)
+  pub fits : (d : Direction) (s : Side) → Sound s → WhereExists (LiesWithin s.formed) (price d s)
   pub covers : (d : Direction) (s : Side) (r : Exact) → Sound s → price d s ≡ Some r → Covers d r (turnover s) (volume s)
 
 -- ---- from a rule of price to its rulebook
 true_lt : (x y : ℤ) → int_lt x y ≡ true → x <ℤ y
-true_lt x y e = record { lt = subst T (sym e) tt }
+true_lt x y e = grind (arith, ints)
 
 follows_up : (z : ℤ) (o : Component) → pos 0 <ℤ z → IsInNetsDirection z (outcome_at Up o)
 follows_up z None h = tt
@@ -42,7 +42,7 @@ follows_down : (z : ℤ) (o : Component) → z <ℤ pos 0 → IsInNetsDirection 
 follows_down z None h = tt
 follows_down z (Some q) h = h
 
-follows_at : (z : ℤ) (price : Direction → Component) (a b : Bool) → (a ≡ true → pos 0 <ℤ z) → (b ≡ true → z <ℤ pos 0) → IsInNetsDirection z (decided_in (cond a (Some Up) (cond b (Some Down) None)) price)
+follows_at : (z : ℤ) (price : Direction → Component) (a b : Bool) → (a ≡ true → pos 0 <ℤ z) → (b ≡ true → z <ℤ pos 0) → IsInNetsDirection z (decided_in (if a then Some Up else if b then Some Down else None) price)
 follows_at z price true b h g = follows_up z (price Up) (h refl)
 follows_at z price false true h g = follows_down z (price Down) (g refl)
 follows_at z price false false h g = tt
@@ -54,7 +54,7 @@ outcome_some : (d : Direction) (o : Component) → is_some o ≡ true → outcom
 outcome_some d None e x = let z : ◌≡◌ {A = ℕ} 0 1 = cc in omega arith
 outcome_some d (Some q) e x = let z : ◌≡◌ {A = ℕ} 0 1 = cc in omega arith
 
-outcome_formed : (f : Figures) (d : Direction) (o : Component) → OnSome (LiesWithin (side_in d f).formed) o → IsFromFormed f (outcome_at d o)
+outcome_formed : (f : Figures) (d : Direction) (o : Component) → WhereExists (LiesWithin (side_in d f).formed) o → IsFromFormed f (outcome_at d o)
 outcome_formed f d None h = tt
 outcome_formed f d (Some q) h = h
 
@@ -103,7 +103,7 @@ mapped_exists g (Some x) e = refl
 counting_exists : (f : Option Span) (m : Manual) → ManualSound f m → 1 ≤ m.volume → is_some (counting_price m) ≡ true
 counting_exists f m s h = ap is_some (cond-true (nat_lt 0 m.volume) (formed_price m) None (lt-ltb 0 m.volume h)) ∙ mapped_exists exact_of_price m.price (s.1 h)
 
-positive : (f : Option Span) (o : Component) → OnSome (LiesWithin f) o → Positive o
+positive : (f : Option Span) (o : Component) → WhereExists (LiesWithin f) o → Positive o
 positive f None h = tt
 positive f (Some q) h = h.divides
 
@@ -124,7 +124,7 @@ module _ (d : Direction) (s : Side) (h : Sound s) where
       by_part _ s k (λ v. extreme_first d c _ (e v))
       (λ v. extreme_second d c _ (first_exists v)) (λ v. extreme_second d c _ (second_exists v)) (λ v. extreme_second d c _ (third_exists v))
 
-  beside_fits : (c : Component) → OnSome (LiesWithin s.formed) c → OnSome (LiesWithin s.formed) (extreme d c (manual_extreme counting_price d s))
+  beside_fits : (c : Component) → WhereExists (LiesWithin s.formed) c → WhereExists (LiesWithin s.formed) (extreme d c (manual_extreme counting_price d s))
   beside_fits c e = extreme_keeps (LiesWithin s.formed) d c _ e (over_fits counting_price d s (counting_fits s.formed) h)
 
   -- what covers the cycles and tops the counting manual prices covers all
@@ -218,7 +218,7 @@ finnish_lawful = record {
       (λ e. quotient_exists (turnover s) (volume s) k)
       (λ e. let n = no_manual s e in extreme_first d (automatic_mean s) _ (quotient_exists s.cycles.turnover s.cycles.volume (omega (arith, n.0, n.1, n.2))));
   fits = λ d s h.
-      cond_both (manual_counts s) (weighted_mean s) (extreme d (automatic_mean s) (manual_extreme formed_price d s)) (OnSome (LiesWithin s.formed))
+      cond_both (manual_counts s) (weighted_mean s) (extreme d (automatic_mean s) (manual_extreme formed_price d s)) (WhereExists (LiesWithin s.formed))
       (λ e. mean_fits s h)
       (λ e. extreme_keeps (LiesWithin s.formed) d (automatic_mean s) _ (automatic_fits s h) (over_fits formed_price d s (formed_fits s.formed) h));
   covers = λ d s r h x.

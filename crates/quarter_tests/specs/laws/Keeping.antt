@@ -1,5 +1,5 @@
 -- The rule of price with a reference price keeps the laws, whatever that price is.
-use Rattle.std.specs.Prelude.{◌≡◌, ℕ, Bool, true, false, cond, is_some, Some, None, Option, refl}
+use Rattle.std.specs.Prelude.{◌≡◌, ℕ, Bool, true, false, if◌then◌else◌, is_some, Some, None, Option, refl}
 use Rattle.std.proofs.Common.{sym, subst, arith}
 use Rattle.std.proofs.lemmas.Bool.{cond_both}
 use borrow.Author.Differences.{ints}
@@ -8,7 +8,7 @@ use Rattle.figures.specs.declared.span.Span.{Span}
 use Rattle.pricing.specs.laws.Fits.{mean_fits}
 use Rattle.pricing.specs.laws.Lawful.{IsLawfulRule, mean_covers, quotient_exists}
 use Rattle.pricing.specs.FourLaws.{LiesWithin}
-use Rattle.pricing.specs.laws.Reach.{OnSome, Reach, Tops, beyond_same, cross, extreme_first, extreme_tops, reach_false, reach_true}
+use Rattle.pricing.specs.laws.Reach.{WhereExists, Reach, Tops, beyond_same, cross, extreme_first, extreme_tops, reach_false, reach_true}
 use Rattle.quarter_tests.specs.References.{mean_or_reference, opposite, reference_price, reference_within}
 use Rattle.source.specs.declared.direction.Direction.{Direction}
 use Rattle.source.specs.declared.direction.Direction.TheVariants.{Up, Down}
@@ -38,24 +38,24 @@ turned Down a b h = h
 
 -- the reference is some price, and no more extreme than all formed
 chosen : (d : Direction) (s : Span) (p : Price) (t : Bool) → (t ≡ false → Reach d (exact_of_price p) (extreme_of_span d s))
-    → (q : Price) × (cond t (Some (extreme_of_span d s)) (Some (exact_of_price p)) ≡ Some (exact_of_price q)) × Reach d (exact_of_price q) (extreme_of_span d s)
+    → (q : Price) × ((if t then Some (extreme_of_span d s) else Some (exact_of_price p)) ≡ Some (exact_of_price q)) × Reach d (exact_of_price q) (extreme_of_span d s)
 chosen Up s p true h = (s.highest, refl, beyond_same Up _)
 chosen Down s p true h = (s.lowest, refl, beyond_same Down _)
 chosen d s p false h = (p, refl, h refl)
 
-reference_fits : (d : Direction) (f : Option Span) (m : Exact) (p : Price) → LiesWithin f m → OnSome (LiesWithin f) (extreme d (Some m) (reference_within p d f))
+reference_fits : (d : Direction) (f : Option Span) (m : Exact) (p : Price) → LiesWithin f m → WhereExists (LiesWithin f) (extreme d (Some m) (reference_within p d f))
 reference_fits d None m p w = absurd (let z : ◌≡◌ {A = ℕ} 0 1 = cc in omega arith)
 reference_fits d (Some s) m p w =
     let t = no_more_extreme (opposite d) (exact_of_price p) (extreme_of_span d s) in
     let c = chosen d s p t (λ e. turned d (extreme_of_span d s) (exact_of_price p) (reach_false (opposite d) (exact_of_price p) (extreme_of_span d s) e)) in
-    subst (λ o. OnSome (LiesWithin (Some s)) (extreme d (Some m) o)) (sym c.1)
-    (cond_both (no_more_extreme d m (exact_of_price c.0)) (Some (exact_of_price c.0)) (Some m) (OnSome (LiesWithin (Some s))) (λ e. price_within d s m c.0 w (reach_true d m (exact_of_price c.0) e) c.2) (λ e. w))
+    subst (λ o. WhereExists (LiesWithin (Some s)) (extreme d (Some m) o)) (sym c.1)
+    (cond_both (no_more_extreme d m (exact_of_price c.0)) (Some (exact_of_price c.0)) (Some m) (WhereExists (LiesWithin (Some s))) (λ e. price_within d s m c.0 w (reach_true d m (exact_of_price c.0) e) c.2) (λ e. w))
 
 mean_exists : (d : Direction) (c r : Component) → is_some c ≡ true → is_some (mean_or_reference d c r) ≡ true
 mean_exists d None r e = e
 mean_exists d (Some m) r e = extreme_first d (Some m) r refl
 
-both_fit : (d : Direction) (f : Option Span) (p : Price) (c : Component) → OnSome (LiesWithin f) c → OnSome (LiesWithin f) (mean_or_reference d c (reference_within p d f))
+both_fit : (d : Direction) (f : Option Span) (p : Price) (c : Component) → WhereExists (LiesWithin f) c → WhereExists (LiesWithin f) (mean_or_reference d c (reference_within p d f))
 both_fit d f p None w = tt
 both_fit d f p (Some m) w = reference_fits d f m p w
 

@@ -8,7 +8,7 @@ use Rattle.pricing.proofs.quote.quote_figures.Goals as goal
 pub returns-clause-quote_of_the_ruling : goal.returns-clause-quote_of_the_ruling
 returns-clause-quote_of_the_ruling g c =
     let f = c.args.figures.now in
-    subst (λ o. IsQuote g.R.Rulebook.CODE o f.avoided (Ok (record { code = c.CODE-code.result; direction = c.from.result; price = c.nearest_cent.result })))
+    subst (λ o. IsQuote g.R.Rulebook.CODE o f.avoided (Ok (record { code = c.CODE-code.result; direction = c.from.result; price = c.nearest_cent.result }))) {y = g.R.Rulebook.ruling c.args.rulebook.now f}
     c.in-Some.ensures
     (record {
       price = c.nearest_cent.result;
