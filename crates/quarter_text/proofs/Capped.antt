@@ -1,5 +1,5 @@
 -- A number that is too large for every bound is read as one that is.
-use Rattle.std.proofs.Common.{◌≡◌, ℕ, ◌+◌, ◌*◌, ◌≤◌, ◌<◌, ◌-◌, ◌^◌, min, Bool, true, false, nat_le, cond, List, [], ◌∷◌, ◌==◌, length, drop, take, get_or, Some, None, Option, sym, refl, ap, ◌∙◌, subst, ⊎_elim, arith}
+use Rattle.std.proofs.Common.{◌≡◌, ℕ, ◌+◌, ◌*◌, ◌≤◌, ◌<◌, ◌-◌, ◌^◌, min, Bool, true, false, nat_le, if◌then◌else◌, List, [], ◌∷◌, ◌==◌, length, drop, take, get_or, Some, None, Option, sym, refl, ap, ◌∙◌, subst, ⊎_elim, arith}
 use Rattle.std.proofs.lemmas.Bool.{cases_lt, le-leb}
 use Rattle.std.proofs.Math.Nat.{le-mul_of_pos_right}
 use Rattle.std.specs.List.{position}
@@ -19,7 +19,7 @@ min_again n d = omega arith
 same_more : (n m d : ℕ) → min READ_AT_MOST n ≡ min READ_AT_MOST m → min READ_AT_MOST (n * 10 + d) ≡ min READ_AT_MOST (m * 10 + d)
 same_more n m d e = omega (arith, e)
 
-same_if : (t : Bool) (o p : Option ℕ) → capped o ≡ capped p → capped (cond t o None) ≡ capped (cond t p None)
+same_if : (t : Bool) (o p : Option ℕ) → capped o ≡ capped p → capped (if t then o else None) ≡ capped (if t then p else None)
 same_if true o p e = e
 same_if false o p e = refl
 

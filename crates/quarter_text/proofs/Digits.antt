@@ -1,5 +1,5 @@
 -- Numbers that are printed are numerals, and are read as themselves.
-use Rattle.std.proofs.Common.{◌≡◌, ℕ, ◌+◌, ◌-◌, ◌*◌, ◌/◌, ◌%◌, ◌^◌, ◌<◌, ◌≤◌, Bool, true, false, not, cond, ◌&&◌, ◌==◌, List, [], ◌∷◌, ◌++◌, length, Some, None, sym, refl, ap, ◌∙◌, append-nil, decimal, length-append, arith}
+use Rattle.std.proofs.Common.{◌≡◌, ℕ, ◌+◌, ◌-◌, ◌*◌, ◌/◌, ◌%◌, ◌^◌, ◌<◌, ◌≤◌, Bool, true, false, not, if◌then◌else◌, ◌&&◌, ◌==◌, List, [], ◌∷◌, ◌++◌, length, Some, None, sym, refl, ap, ◌∙◌, append-nil, decimal, length-append, arith}
 use Rattle.std.proofs.lemmas.Bool.Decides.{nat_tests}
 use Rattle.std.proofs.lemmas.Bool.{and_parts, and_from, eq-eqb, le-ltb, lt-ltb}
 use Rattle.std.proofs.lemmas.Fmt.{decimal_by_steps}
@@ -28,7 +28,7 @@ one_after : (w : List ℕ) (a v c : ℕ) → all_digits w ≡ true → is_ascii_
 one_after [] a v c p d e = rw d (ap Some (grind (arith, e)))
 one_after (b ∷ w) a v c p d e =
     let s = and_parts (is_ascii_digit b) (all_digits w) p in
-    let f : digits_after (a * 10 + (b - 48)) w ≡ Some v = ap (λ t. cond t (digits_after (a * 10 + (b - 48)) w) None) (sym s.0) ∙ e in
+    let f : digits_after (a * 10 + (b - 48)) w ≡ Some v = ap (λ t. if t then digits_after (a * 10 + (b - 48)) w else None) (sym s.0) ∙ e in
     rw s.0 (one_after w (a * 10 + (b - 48)) v c s.1 d f)
 
 -- a text of digits, one at least, that writes n

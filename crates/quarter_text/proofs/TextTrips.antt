@@ -1,5 +1,5 @@
 -- A printed text is read back as the source that was printed.
-use Rattle.std.proofs.Common.{◌≡◌, ℕ, zero, suc, ◌+◌, ◌-◌, ◌<◌, ◌≤◌, true, false, cond, List, [], ◌∷◌, ◌++◌, length, replicate, get_or, Some, None, Ok, Option, Result, sym, refl, ap, ◌∙◌, subst, append-nil, append_assoc, codes, inl, inr, ⊎_elim, arith}
+use Rattle.std.proofs.Common.{◌≡◌, ℕ, zero, suc, ◌+◌, ◌-◌, ◌<◌, ◌≤◌, true, false, if◌then◌else◌, List, [], ◌∷◌, ◌++◌, length, replicate, get_or, Some, None, Ok, Option, Result, sym, refl, ap, ◌∙◌, subst, append-nil, append_assoc, codes, inl, inr, ⊎_elim, arith}
 use Rattle.std.proofs.lemmas.Bool.{cases_Bool, cases_lt, and_from}
 use Rattle.std.specs.Fmt.{signed_decimal}
 use Rattle.std.specs.Option.{unwrap_or}
@@ -74,7 +74,7 @@ all_same (suc n) (suc i) x = all_same n i x
 
 -- what is named of a slot: nothing, where it is idle
 abbrev told_of : Slot → Option Slot
-told_of s = cond (same_slot s idle) None (Some s)
+told_of s = if same_slot s idle then None else Some s
 
 -- the first j slots are named
 record Marked (m : ℕ → Slot) (j : ℕ) (l : List (Option Slot)) : Type 0 where
