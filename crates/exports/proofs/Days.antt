@@ -15,6 +15,7 @@ use Rattle.settlement.specs.Promises.{IsSoundCall}
 use Rattle.settlement.specs.Standings.{is_closed}
 use Rattle.settlement.specs.Starting.{Begins}
 use Rattle.settlement.specs.declared.book.Book.{Book}
+use Rattle.settlement.specs.declared.book.TheConstants.{MOST_PERIODS, MOST_PARTIES}
 use Rattle.settlement.specs.declared.fault.BookFault.{BookFault}
 use Rattle.settlement.specs.declared.quarter.Quarter.{Quarter}
 use Rattle.settlement.specs.declared.quarter.Quarter.TheVariants.{Blank, Priced, Closed}
@@ -86,14 +87,14 @@ settled_alike n k l a = record {
 priced_only : (n m : ℕ) (b b' : Book) → Begins n m b → b'.parties ≡ b.parties → SameCounts b b' → IsSameKnown (in_book b') (unmetered m (quarters_in b'))
 priced_only n m b b' g e c =
     let long : length (quarters_in b') ≡ b'.period_count = length-take-le b'.period_count b'.quarters (omega (arith, b'.counts.1, b'.places.0)) in
-    let rows : imbalances_in b' ≡ replicate 32 (replicate 100 balanced) = ap (λ ps. map (λ party. party.imbalances) ps) e ∙ g.fresh.unmetered in
-    let amounts : payments_in b' ≡ replicate 32 nothing = ap (λ ps. map (λ party. party.paid) ps) e ∙ g.fresh.unpaid in
+    let rows : imbalances_in b' ≡ replicate MOST_PARTIES (replicate MOST_PERIODS balanced) = ap (λ ps. map (λ party. party.imbalances) ps) e ∙ g.fresh.unmetered in
+    let amounts : payments_in b' ≡ replicate MOST_PARTIES nothing = ap (λ ps. map (λ party. party.paid) ps) e ∙ g.fresh.unpaid in
     record {
       periods = sym long;
       parties = c.1 ∙ g.parties;
       quarter = λ p x. sym (get_or-take b'.period_count b'.quarters p Blank (omega (arith, long)));
-      imbalance = λ p q x y. rw rows (ap (λ (i : Imbalance). i.kwh) (none_metered 32 100 p q));
-      paid = λ q y. rw amounts (ap (λ (x : Amount). x.cents) (all_same 32 q nothing));
+      imbalance = λ p q x y. rw rows (ap (λ (i : Imbalance). i.kwh) (none_metered MOST_PARTIES MOST_PERIODS p q));
+      paid = λ q y. rw amounts (ap (λ (x : Amount). x.cents) (all_same MOST_PARTIES q nothing));
     }
 
 not_closed : (s : List ℕ) (x : Quarter) → QuarterOf s x → is_closed x ≡ false

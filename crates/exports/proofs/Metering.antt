@@ -1,8 +1,10 @@
 -- The meter values of the day are taken, and what each metering leaves.
-use Rattle.std.proofs.Common.{◌≡◌, ℕ, ◌+◌, ◌*◌, ◌<◌, ◌≤◌, ⊎_elim, true, false, [], ◌∷◌, length, get_or, set, ℤ, pos, ◌+ℤ◌, ◌-ℤ◌, None, Ok, Err, Result, nat_abs, sym, refl, ap, ◌∙◌, subst, arith}
+use Rattle.std.proofs.Common.{◌≡◌, ℕ, ◌+◌, ◌*◌, ◌<◌, ◌≤◌, ⊎_elim, false, [], ◌∷◌, length, get_or, set, ℤ, pos, ◌+ℤ◌, ◌-ℤ◌, None, Ok, Err, Result, nat_abs, sym, refl, ap, ◌∙◌, subst, arith}
 use borrow.Author.Differences.{ints}
-use Rattle.std.proofs.lemmas.Bool.{cases_eq, le-leb}
-use Rattle.metering.specs.Imbalances.{Values, balanced, imbalance, in_bounds, metering_fault, unless_fault}
+use Rattle.std.proofs.lemmas.Bool.{cases_eq, le-ltb}
+use Rattle.std.specs.Option.{option_map_or}
+use Rattle.metering.specs.Imbalances.{Values, balanced, imbalance, is_beyond, metering_fault}
+use Rattle.metering.specs.declared.meter_values.TheConstants.{MOST_KWH}
 use Rattle.metering.specs.declared.imbalance.Imbalance.{Imbalance}
 use Rattle.settlement.specs.Answers.{metering_call_fault}
 use Rattle.settlement.specs.Books.{imbalance_at, imbalances_in, imbalances_of, in_book, payments_in, quarter_at}
@@ -12,16 +14,17 @@ use Rattle.settlement.specs.Known.{Known}
 use Rattle.settlement.specs.Promises.{IsSoundCall}
 use Rattle.settlement.specs.Standings.{is_closed}
 use Rattle.settlement.specs.declared.book.Book.{Book}
+use Rattle.settlement.specs.declared.book.TheConstants.{MOST_PERIODS, MOST_PARTIES}
 use Rattle.settlement.specs.declared.fault.BookFault.{BookFault}
-use Rattle.settlement.proofs.Checks.{never, party_within, period_within}
+use Rattle.settlement.proofs.Checks.{all_passed, never, party_within, period_within}
 use Rattle.settlement.proofs.Readings.{row_placed, imbalance_placed}
 use Rattle.exports.specs.BenchDays.{meter_values}
 use Rattle.settlement.proofs.Kept.{written}
 
-within : (z : ℤ) → nat_abs z ≤ 5_000_000 → in_bounds z ≡ true
-within z l = le-leb (nat_abs z) 5_000_000 l
+within : (z : ℤ) → nat_abs z ≤ MOST_KWH → is_beyond z ≡ false
+within z l = le-ltb MOST_KWH (nat_abs z) l
 
-pub passed : (p q : ℕ) (late : ℤ) → p < 100 → q < 32 → nat_abs late ≤ 1_000 → metering_fault (meter_values p q late) ≡ None
+pub passed : (p q : ℕ) (late : ℤ) → p < MOST_PERIODS → q < MOST_PARTIES → nat_abs late ≤ 1_000 → metering_fault (meter_values p q late) ≡ None
 passed p q late lp lq ll =
     let a = within (pos (13 * p) -ℤ pos 900) (omega (arith, ints)) in
     let b = within (pos (7 * q) -ℤ pos 350) (omega (arith, ints)) in
@@ -62,13 +65,10 @@ took_as b b' p q i z lp lq e f =
     }
 
 answered : (b b' : Book) (p q : ℕ) (v : Values) (a : Result Imbalance BookFault) → p < b.period_count → q < b.party_count → metering_call_fault (in_book b) p q v ≡ None → IsSoundCall (metering p q v a) b b' → Took b b' p q (imbalance v)
-answered b b' p q v (Ok i) lp lq n w =
-    let e : Ok i.kwh ≡ unless_fault (metering_call_fault (in_book b) p q v) (imbalance v) = w.did.answered in
-    let s : Ok i.kwh ≡ unless_fault {F = BookFault} None (imbalance v) = e ∙ ap (λ o. unless_fault o (imbalance v)) n in
-    took_as b b' p q i (imbalance v) lp lq (cc) w.did.changes
+answered b b' p q v (Ok i) lp lq n w = took_as b b' p q i (imbalance v) lp lq (all_passed (metering_call_fault (in_book b) p q v) (imbalance v) i.kwh w.did.answered).1 w.did.changes
 answered b b' p q v (Err f) lp lq n w =
-    let e : Err f ≡ unless_fault (metering_call_fault (in_book b) p q v) (imbalance v) = w.did.answered in
-    never (imbalance v) f (sym (e ∙ ap (λ o. unless_fault o (imbalance v)) n))
+    let e : Err f ≡ option_map_or Err (metering_call_fault (in_book b) p q v) (Ok (imbalance v)) = w.did.answered in
+    never (imbalance v) f (sym (e ∙ ap (λ o. option_map_or Err o (Ok (imbalance v))) n))
 
 -- the values of the day are taken where the book has the period and the party, and the quarter is not closed
 pub took : (b b' : Book) (p q : ℕ) (late : ℤ) (a : Result Imbalance BookFault) → p < b.period_count → q < b.party_count → nat_abs late ≤ 1_000 → is_closed (quarter_at b p) ≡ false → IsSoundCall (metering p q (meter_values p q late) a) b b' → Took b b' p q (imbalance (meter_values p q late))

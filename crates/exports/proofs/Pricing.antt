@@ -19,6 +19,7 @@ use Rattle.settlement.specs.Events.{pricing}
 use Rattle.settlement.specs.Known.{Known}
 use Rattle.settlement.specs.Promises.{IsSoundCall}
 use Rattle.settlement.specs.declared.book.Book.{Book}
+use Rattle.settlement.specs.declared.book.TheConstants.{MOST_PERIODS}
 use Rattle.settlement.specs.declared.fault.BookFault.{BookFault}
 use Rattle.settlement.specs.declared.quarter.Quarter.{Quarter}
 use Rattle.settlement.specs.declared.quarter.Quarter.TheVariants.{Blank, Priced}
@@ -125,14 +126,14 @@ no_prices n = omega (arith, sum_by-replicate (λ y. cond (has_price y) 1 0) n Bl
 
 pub none_priced : (sheets ends : List ℕ) (b : Book) → IsFresh b → b.period_count ≡ length ends → PricedTo sheets ends b b 0 0 0
 none_priced sheets ends b f e =
-    let blank : (p : ℕ) → quarter_at b p ≡ Blank = λ p. rw f.blank (all_same 100 p Blank) in
+    let blank : (p : ℕ) → quarter_at b p ≡ Blank = λ p. rw f.blank (all_same MOST_PERIODS p Blank) in
     record {
       parties = refl;
       counts = (refl, refl);
       count = e;
       done = λ p l. absurd (omega arith);
       blank = λ p l. blank p;
-      many = sym (ap (count_by has_price) f.blank ∙ no_prices 100);
+      many = sym (ap (count_by has_price) f.blank ∙ no_prices MOST_PERIODS);
       few = omega arith;
       begins = refl;
     }

@@ -1,10 +1,9 @@
 -- What each settling leaves in the book and in the buffer.
 use Rattle.std.proofs.Common.{◌≡◌, ℕ, ◌+◌, ◌<◌, ◌≤◌, ◌≢◌, cond, ltb, ⊎_elim, List, length, get_or, set, ℤ, pos, ◌+ℤ◌, Ok, Err, sym, refl, ap, ◌∙◌, subst, arith, get_or-set_other}
+use Rattle.std.specs.Option.{option_map_or}
 use Rattle.std.proofs.lemmas.Bool.{cases_eq, cases_lt, cond_above, cond_below}
 use Rattle.std.proofs.lemmas.List.{length-set}
 use Rattle.std.proofs.lemmas.List.FromFn.{fill_by_all}
-use Rattle.metering.proofs.Positions.{passed}
-use Rattle.metering.specs.Imbalances.{unless_fault}
 use Rattle.units.specs.declared.euros.Amount.{Amount}
 use Rattle.settlement.specs.Answers.{party_fault}
 use Rattle.settlement.specs.Books.{imbalances_in, in_book, paid_to, payments_in}
@@ -14,7 +13,7 @@ use Rattle.settlement.specs.Known.{nothing, payable}
 use Rattle.settlement.specs.Promises.{IsSoundCall}
 use Rattle.settlement.specs.declared.book.Book.{Book}
 use Rattle.settlement.specs.declared.fault.BookFault.{BookFault}
-use Rattle.settlement.proofs.Checks.{never, party_known, party_within}
+use Rattle.settlement.proofs.Checks.{all_passed, never, party_known, party_within}
 use Rattle.settlement.proofs.Readings.{amount_placed}
 use Rattle.exports.specs.BenchDays.{payments_over}
 use Rattle.settlement.proofs.Kept.{written}
@@ -37,7 +36,7 @@ owes_the_same k b q n e f g = simp (n, e, f, g)
 pub accepted : (k b b' : Book) (before after : List ℤ) (i : ℕ) (x : Amount) → i < length before → SettledTo k b before after i → IsSoundCall (settling i (Ok x)) b b' → SettledTo k b' before (set after i x.cents) (i + 1)
 accepted k b b' before after i x l s w =
     let f : Paid b b' i (record { cents = (paid_to b i).cents +ℤ x.cents }) = w.did.changes in
-    let a = passed (party_fault (in_book b) i) (payable (in_book b) i) x.cents w.did.answered in
+    let a = all_passed (party_fault (in_book b) i) (payable (in_book b) i) x.cents w.did.answered in
     let has : i < b.party_count = party_known (in_book b) i a.0 in
     let due : x.cents ≡ payable (in_book k) i = a.1 ∙ owes_the_same k b i s.counts.0 s.quarters s.imbalances (s.unpaid i (omega arith)) in
     let place : i < length (payments_in b) = amount_placed b i has in
@@ -60,10 +59,10 @@ accepted k b b' before after i x l s w =
       others = λ q h. (let n : q ≢ i = omega arith in get_or-set_other after i q x.cents (pos 0) n) ∙ s.others q (omega arith);
     }
 
-past : (b : Book) (q : ℕ) (f : BookFault) → Err f ≡ unless_fault (party_fault (in_book b) q) (payable (in_book b) q) → b.party_count ≤ q
+past : (b : Book) (q : ℕ) (f : BookFault) → Err f ≡ option_map_or Err (party_fault (in_book b) q) (Ok (payable (in_book b) q)) → b.party_count ≤ q
 past b q f e =
     ⊎_elim
-    (λ (l : q < b.party_count). never (payable (in_book b) q) f (sym (e ∙ ap (λ o. unless_fault o (payable (in_book b) q)) (party_within (in_book b) q l))))
+    (λ (l : q < b.party_count). never (payable (in_book b) q) f (sym (e ∙ ap (λ o. option_map_or Err o (Ok (payable (in_book b) q))) (party_within (in_book b) q l))))
     (λ (l : b.party_count ≤ q). l)
     (cases_lt q (b.party_count))
 

@@ -9,6 +9,7 @@ ghost use Rattle.settlement.specs.Events.{metering};
 ghost use Rattle.settlement.specs.Promises.{IsSoundCall};
 ghost use Rattle.settlement.specs.Standings.{is_closed};
 ghost use Rattle.settlement.specs.Starting.{count_fault};
+ghost use Rattle.settlement.specs.declared.book.TheConstants.{MOST_PERIODS, MOST_PARTIES};
 
 use crate::plain::PlainDay;
 use metering::{Imbalance, MeterValues};
@@ -41,8 +42,8 @@ fn price_all(book: &mut Book, sheets: &[u8], ends: &[usize]) -> usize
 
 // Meters values of plain numbers, made from the period and the party. Answers as the book does.
 fn meter(book: &mut Book, period: usize, party: usize, late: i64) -> Result<Imbalance, BookFault>
-    requires period { period < 100 }
-    requires party { party < 32 }
+    requires period { period < MOST_PERIODS }
+    requires party { party < MOST_PARTIES }
     requires late { unsigned_abs late ≤ 1_000 }
     ensures { IsSoundCall (metering period party (meter_values period party late) result) book.old book.new }
 {

@@ -1,11 +1,14 @@
 -- The imbalance of a party in a quarter, from what is metered of it.
-use Rattle.std.specs.Prelude.{ℕ, Bool, true, false, List, length, ℤ, pos, ◌+ℤ◌, ◌-ℤ◌, Some, None, Ok, Err, fold, Option, Result, nat_le, unsigned_abs}
+use Rattle.std.specs.Prelude.{◌≡◌, ℕ, Bool, List, length, ℤ, pos, ◌+ℤ◌, ◌-ℤ◌, Some, None, Ok, Err, fold, Option, Result, nat_lt, unsigned_abs, if◌then◌else◌}
 use Rattle.std.proofs.Common.{lit≤}
-use Rattle.std.specs.List.{prefix_len}
+use Rattle.std.specs.List.{position_or_len}
+use Rattle.std.specs.Option.{option_map_or}
 use Rattle.metering.specs.declared.fault.MeteringFault.{MeteringFault}
 use Rattle.metering.specs.declared.fault.MeteringFault.TheVariants.{TooManySchedules, Schedule, Position, Allocated, Adjustment}
 use Rattle.metering.specs.declared.imbalance.Imbalance.{Imbalance}
+use Rattle.metering.specs.declared.imbalance.TheConstants.{MOST_IMBALANCE}
 use Rattle.metering.specs.declared.meter_values.MeterValues.{MeterValues}
+use Rattle.metering.specs.declared.meter_values.TheConstants.{MOST_KWH, MOST_SCHEDULES}
 
 -- trade schedules, allocated volume and adjustment, in whole kWh
 pub record Values : Type 0 where
@@ -13,6 +16,7 @@ pub record Values : Type 0 where
   pub allocated : ℤ
   pub adjustment : ℤ
 
+-- what the meter values hold
 abbrev pub values_of : MeterValues → Values
 values_of v = record { schedules = v.schedules.now; allocated = v.allocated; adjustment = v.adjustment }
 
@@ -20,49 +24,37 @@ values_of v = record { schedules = v.schedules.now; allocated = v.allocated; adj
 abbrev pub position : List ℤ → ℤ
 position s = fold ◌+ℤ◌ (pos 0) s
 
--- upward delivery is a positive adjustment
+-- allocated less position less adjustment, where upward delivery is a positive adjustment
 abbrev pub imbalance : Values → ℤ
 imbalance v = (v.allocated -ℤ position v.schedules) -ℤ v.adjustment
 
-abbrev pub in_bounds : ℤ → Bool
-in_bounds z = nat_le (unsigned_abs z) 5_000_000
+-- the most trade schedules; the most kWh, either way, of what is metered and of the position; and of an imbalance
+pub record MostMetered : Type 0 where
+  pub schedules : MOST_SCHEDULES ≡ 32
+  pub kwh : MOST_KWH ≡ 5_000_000
+  pub imbalance : MOST_IMBALANCE ≡ 15_000_000
 
--- the fault of a check, unless it is passed
-abbrev pub unless : {F : Type 0} → Bool → F → Option F
-unless true f = None
-unless false f = Some f
+-- whether a number is out of bounds
+abbrev pub is_beyond : ℤ → Bool
+is_beyond z = nat_lt MOST_KWH (unsigned_abs z)
 
--- the first of two that is there
-abbrev pub or_next : {F : Type 0} → Option F → Option F → Option F
-or_next (Some f) g = Some f
-or_next None g = g
+-- the place of the first schedule that is out of bounds, or past the last where none is
+abbrev pub first_beyond : List ℤ → ℕ
+first_beyond s = position_or_len is_beyond s
 
--- as many schedules as stand before the first that is out of bounds
-abbrev pub good_schedules : List ℤ → ℕ
-good_schedules s = prefix_len in_bounds s
-
-abbrev pub schedule_fault : List ℤ → Option MeteringFault
-schedule_fault s = unless (nat_le (length s) (good_schedules s)) (Schedule (good_schedules s))
-
--- the checks in their order
+-- 13: the checks of meter values in their order
 abbrev pub metering_fault : Values → Option MeteringFault
 metering_fault v =
-    or_next (unless (nat_le (length v.schedules) 32) TooManySchedules)
-    (or_next (schedule_fault v.schedules)
-    (or_next (unless (in_bounds (position v.schedules)) Position)
-    (or_next (unless (in_bounds v.allocated) Allocated)
-    (unless (in_bounds v.adjustment) Adjustment))))
+    if nat_lt MOST_SCHEDULES (length v.schedules) then Some TooManySchedules
+    else if nat_lt (first_beyond v.schedules) (length v.schedules) then Some (Schedule (first_beyond v.schedules))
+    else if is_beyond (position v.schedules) then Some Position
+    else if is_beyond v.allocated then Some Allocated
+    else if is_beyond v.adjustment then Some Adjustment
+    else None
 
--- the answer, unless a check is not passed
-abbrev pub unless_fault : {X F : Type 0} → Option F → X → Result X F
-unless_fault (Some f) x = Err f
-unless_fault None x = Ok x
-
-abbrev pub position_of : List ℤ → Result ℤ MeteringFault
-position_of s = unless_fault (schedule_fault s) (position s)
-
+-- the fault of the first check that is not passed, or else the imbalance
 abbrev pub imbalance_of : Values → Result ℤ MeteringFault
-imbalance_of v = unless_fault (metering_fault v) (imbalance v)
+imbalance_of v = option_map_or Err (metering_fault v) (Ok (imbalance v))
 
 -- an answer in plain kWh
 abbrev pub kwh_of : {F : Type 0} → Result Imbalance F → Result ℤ F

@@ -1,11 +1,12 @@
 // Why meter values give no imbalance.
 ghost use Rattle.metering.specs.Refusals.{metering_number, metering_place};
 
+use crate::meter_values::MOST_SCHEDULES;
 use units::Refusal;
 
 #[derive(Clone, Copy, PartialEq, Eq, Debug)]
 pub enum MeteringFault {
-    /// There are more than 32 trade schedules.
+    /// There are more trade schedules than a party can have.
     TooManySchedules,
     /// A trade schedule is out of bounds.
     Schedule { index: usize },
@@ -28,11 +29,11 @@ impl Refusal for MeteringFault {
 
     fn place(self) -> usize {
         match self {
-            MeteringFault::TooManySchedules => 32,
+            MeteringFault::TooManySchedules => MOST_SCHEDULES,
             MeteringFault::Schedule { index } => index,
-            MeteringFault::Position => 33,
-            MeteringFault::Allocated => 34,
-            MeteringFault::Adjustment => 35,
+            MeteringFault::Position => MOST_SCHEDULES + 1,
+            MeteringFault::Allocated => MOST_SCHEDULES + 2,
+            MeteringFault::Adjustment => MOST_SCHEDULES + 3,
         }
     }
 }

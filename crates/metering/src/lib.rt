@@ -6,5 +6,5 @@ mod imbalance;
 mod meter_values;
 
 pub use fault::MeteringFault;
-pub use imbalance::Imbalance;
-pub use meter_values::MeterValues;
+pub use imbalance::{Imbalance, MOST_IMBALANCE};
+pub use meter_values::{MOST_KWH, MOST_SCHEDULES, MeterValues};

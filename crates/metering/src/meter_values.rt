@@ -1,15 +1,17 @@
 // From meter values to the imbalance.
-ghost use Rattle.std.specs.Prelude.{◌≡◌, ◌≤◌, ◌-ℤ◌, length, IfOk, unsigned_abs};
-ghost use Rattle.metering.specs.Imbalances.{balanced, imbalance_of, in_bounds, kwh_of, position_of, unless, unless_fault, values_of};
+ghost use Rattle.std.specs.Prelude.{◌≡◌, ◌*◌, ◌≤◌, ◌-ℤ◌, length, IfOk, unsigned_abs};
+ghost use Rattle.metering.specs.Imbalances.{MostMetered, balanced, imbalance_of, kwh_of, values_of};
+ghost use Rattle.metering.specs.Steps.{in_bounds, position_of};
+ghost use Rattle.metering.specs.declared.meter_values.TheConstants.{MOST_KWH, MOST_SCHEDULES};
 
 use crate::fault::MeteringFault;
 use crate::imbalance::Imbalance;
 
 /// The most kWh, either way, of a schedule, a position, an allocated volume and an adjustment.
-const LIMIT: i64 = 5_000_000;
+pub const MOST_KWH: u64 = 5_000_000;
 
 /// The most trade schedules of a party in a quarter.
-const SCHEDULES: usize = 32;
+pub const MOST_SCHEDULES: usize = 32;
 
 /// The trade schedules of a party, its allocated volume and its adjustment, in whole kWh. Upward delivery
 /// is a positive adjustment.
@@ -20,11 +22,12 @@ pub struct MeterValues<'a> {
     pub adjustment: i64,
 }
 
+// A number of the meter values, or its fault where it is out of bounds.
 fn bounded(kwh: i64, fault: MeteringFault) -> Result<i64, MeteringFault>
-    ensures value { result ≡ unless_fault (unless (in_bounds kwh) fault) kwh }
-    ensures bound { IfOk result (λ z. unsigned_abs z ≤ 5_000_000) }
+    ensures kwh_in_bounds { result ≡ in_bounds kwh fault }
+    ensures bound { IfOk result (λ z. unsigned_abs z ≤ MOST_KWH) }
 {
-    if (-LIMIT..=LIMIT).contains(&kwh) {
+    if kwh.unsigned_abs() <= MOST_KWH {
         Ok(kwh)
     } else {
         Err(fault)
@@ -33,9 +36,9 @@ fn bounded(kwh: i64, fault: MeteringFault) -> Result<i64, MeteringFault>
 
 // The sum of the schedules, which stays small since each is in bounds; or the first that is not.
 fn position_of(schedules: &[i64]) -> Result<i64, MeteringFault>
-    requires { length schedules.now ≤ 32 }
-    ensures value { result ≡ position_of schedules.now }
-    ensures bound { IfOk result (λ z. unsigned_abs z ≤ 160_000_000) }
+    requires { length schedules.now ≤ MOST_SCHEDULES }
+    ensures sum_or_first_fault { result ≡ position_of schedules.now }
+    ensures bound { IfOk result (λ z. unsigned_abs z ≤ MOST_SCHEDULES * MOST_KWH) }
 {
     let mut position = 0;
     for (index, schedule) in schedules.iter().enumerate() {
@@ -46,9 +49,9 @@ fn position_of(schedules: &[i64]) -> Result<i64, MeteringFault>
 
 // Allocated less position less adjustment, which fits since each is in bounds.
 fn difference(allocated: i64, position: i64, adjustment: i64) -> Imbalance
-    requires allocated { unsigned_abs allocated ≤ 5_000_000 }
-    requires position { unsigned_abs position ≤ 5_000_000 }
-    requires adjustment { unsigned_abs adjustment ≤ 5_000_000 }
+    requires allocated { unsigned_abs allocated ≤ MOST_KWH }
+    requires position { unsigned_abs position ≤ MOST_KWH }
+    requires adjustment { unsigned_abs adjustment ≤ MOST_KWH }
     ensures { result.kwh ≡ allocated -ℤ position -ℤ adjustment }
 {
     Imbalance {
@@ -74,9 +77,10 @@ impl Imbalance {
 impl MeterValues<'_> {
     /// Allocated less position less adjustment, or the first fault.
     pub fn imbalance(&self) -> Result<Imbalance, MeteringFault>
-        ensures { kwh_of result ≡ imbalance_of (values_of self.now) }
+        ensures imbalance_or_first_fault { kwh_of result ≡ imbalance_of (values_of self.now) }
+        ensures most_metered { MostMetered }
     {
-        if self.schedules.len() > SCHEDULES {
+        if self.schedules.len() > MOST_SCHEDULES {
             return Err(MeteringFault::TooManySchedules);
         }
         let position = bounded(position_of(self.schedules)?, MeteringFault::Position)?;

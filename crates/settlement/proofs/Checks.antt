@@ -2,11 +2,11 @@
 use Rattle.std.proofs.Common.{◌≡◌, ℕ, ◌<◌, ◌≤◌, Bool, true, false, Some, None, Ok, Err, Option, Result, refl, ap, arith}
 use Rattle.std.proofs.lemmas.Bool.{ltb-true, lt-ltb, le-ltb}
 use Rattle.std.specs.Prelude.{if◌then◌else◌}
-use Rattle.std.specs.Option.{option_or}
+use Rattle.std.specs.Option.{option_map_or, option_or}
 use Rattle.pricing.specs.Quotes.{Answer, IsQuoteOfSource}
 use Rattle.pricing.specs.declared.quote.Quote.{Quote}
 use Rattle.source.specs.Meanings.{Meaning}
-use Rattle.settlement.specs.Answers.{IsPricingAnswer, QuotedAt, Rules, closed_fault, closing_answer, party_fault, period_fault, pricing_answer, pricing_fault, unless_refused}
+use Rattle.settlement.specs.Answers.{IsPricingAnswer, QuotedAt, Rules, closed_fault, closing_answer, party_fault, period_fault, pricing_answer, pricing_fault}
 use Rattle.settlement.specs.Known.{Known}
 use Rattle.settlement.specs.Standings.{is_closed}
 use Rattle.settlement.specs.declared.fault.BookFault.{BookFault}
@@ -31,9 +31,14 @@ fails : {F : Type 0} (t : Bool) (f : F) → (if t then Some f else None) ≡ Non
 fails true f e = let z : ◌≡◌ {A = ℕ} 0 1 = cc in absurd (omega arith)
 fails false f e = refl
 
-pub taken : {X F : Type 0} (o : Option F) (a : Result X F) (z : X) → Ok z ≡ unless_refused o a → (o ≡ None) × (Ok z ≡ a)
+pub taken : {X F : Type 0} (o : Option F) (a : Result X F) (z : X) → Ok z ≡ option_map_or Err o a → (o ≡ None) × (Ok z ≡ a)
 taken None a z e = (refl, e)
 taken (Some f) a z e = never z f e
+
+-- an answer that is given, of a call whose checks are then all passed
+pub all_passed : {X F : Type 0} (o : Option F) (x z : X) → Ok z ≡ option_map_or Err o (Ok x) → (o ≡ None) × (z ≡ x)
+all_passed None x z e = (refl, cc)
+all_passed (Some f) x z e = never z f e
 
 pub period_within : (k : Known) (p : ℕ) → p < k.periods → period_fault k p ≡ None
 period_within k p l = ap (λ t. if t then None else Some (PeriodOutOfRange p)) (lt-ltb p k.periods l)
@@ -91,7 +96,7 @@ pub record Shut (k : Known) (p : ℕ) (x : Quarter) : Type 0 where
   pub was : k.quarter p ≡ Priced quote
   pub is : x ≡ Closed quote
 
-pub closing_accepted : (k : Known) (p : ℕ) (x : Quarter) → Ok x ≡ unless_refused (period_fault k p) (closing_answer p (k.quarter p)) → Shut k p x
+pub closing_accepted : (k : Known) (p : ℕ) (x : Quarter) → Ok x ≡ option_map_or Err (period_fault k p) (closing_answer p (k.quarter p)) → Shut k p x
 closing_accepted k p x e =
     let s = taken (period_fault k p) (closing_answer p (k.quarter p)) x e in
     let q = closing_of p (k.quarter p) x s.1 in

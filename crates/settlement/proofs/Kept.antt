@@ -1,17 +1,16 @@
 -- Each call keeps that the book holds what the run says.
 use Rattle.std.proofs.Common.{◌≡◌, ℕ, zero, suc, ◌<◌, Bool, true, false, ◌&&◌, eqb, ◌≢◌, List, [], ◌∷◌, length, get_or, set, replicate, ℤ, ◌+ℤ◌, Some, None, Ok, Err, is_some, Option, sym, refl, ap, ◌∙◌, subst, ⊎_elim, arith, get_or-set_other, get_or-set_same}
 use borrow.Author.Differences.{ints}
-use Rattle.std.specs.Option.{option_map, option_or}
+use Rattle.std.specs.Option.{option_map, option_map_or, option_or}
 use Rattle.std.specs.Prelude.{if◌then◌else◌}
 use Rattle.std.proofs.lemmas.Bool.{eqb-true, eq-eqb, ne_eqb, cases_Bool, cases_eq, and_parts, and_from}
-use Rattle.metering.specs.Imbalances.{Values, balanced, imbalance, kwh_of, metering_fault, unless_fault}
-use Rattle.metering.proofs.Positions.{passed}
+use Rattle.metering.specs.Imbalances.{Values, balanced, imbalance, kwh_of, metering_fault}
 use Rattle.metering.specs.declared.imbalance.Imbalance.{Imbalance}
 use Rattle.pricing.specs.declared.quote.Quote.{Quote}
 use Rattle.source.specs.Meanings.{Meaning}
 use Rattle.units.proofs.Rounds.{nearest_rounded}
 use Rattle.units.specs.declared.euros.Amount.{Amount}
-use Rattle.settlement.specs.Answers.{IsLawfulRulebook, IsPricingAnswer, Rules, closing_answer, metering_call_fault, party_fault, period_fault, unless_refused}
+use Rattle.settlement.specs.Answers.{IsLawfulRulebook, IsPricingAnswer, Rules, closing_answer, metering_call_fault, party_fault, period_fault}
 use Rattle.settlement.specs.Books.{IsFresh, imbalance_at, imbalances_in, imbalances_of, in_book, paid_to, payments_in, quarter_at}
 use Rattle.settlement.specs.Changes.{Filed, Metered, Paid, SameCounts}
 use Rattle.settlement.specs.Events.{Answered, Changes, Did, Event, closing, metering, pricing, settling}
@@ -25,7 +24,7 @@ use Rattle.settlement.specs.declared.fault.BookFault.TheVariants.{QuarterClosed,
 use Rattle.settlement.specs.declared.party.Party.{Party}
 use Rattle.settlement.specs.declared.quarter.Quarter.{Quarter}
 use Rattle.settlement.specs.declared.quarter.Quarter.TheVariants.{Blank, Priced, Closed}
-use Rattle.settlement.proofs.Checks.{Accepted, Shut, closing_accepted, or_none, party_known, period_known, pricing_accepted}
+use Rattle.settlement.proofs.Checks.{Accepted, Shut, all_passed, closing_accepted, or_none, party_known, period_known, pricing_accepted}
 use Rattle.settlement.proofs.Filings.{filed, right, within_bounds}
 use Rattle.settlement.proofs.Only.{only}
 use Rattle.settlement.proofs.Readings.{amount_placed, imbalance_of, paid_of, quarter_of, quarter_placed, row_placed, imbalance_placed}
@@ -195,7 +194,7 @@ step : (h : List Event) (e : Event) (b b' : Book) → Did e b b' → Reached h b
 step h (pricing p m r (Ok x)) b b' d k = priced_run h b b' p m r x d.lawful (pricing_accepted (in_book b) p m r x d.answered) d.changes k
 step h (pricing p m r (Err f)) b b' d k = unchanged _ h b b' d.changes (record { standings = k.standings; closings = k.closings; prices = k.prices; bounds = k.bounds; imbalances = k.imbalances; payments = k.payments })
 step h (metering p q v (Ok i)) b b' d k =
-    let s = passed (metering_call_fault (in_book b) p q v) (imbalance v) i.kwh d.answered in
+    let s = all_passed (metering_call_fault (in_book b) p q v) (imbalance v) i.kwh d.answered in
     let n = or_none (period_fault (in_book b) p) _ s.0 in
     let o = or_none (party_fault (in_book b) q) _ n.1 in
     metered_run h b b' p q v i (period_known (in_book b) p n.0) (party_known (in_book b) q o.0) s.1 d.changes k
@@ -203,7 +202,7 @@ step h (metering p q v (Err f)) b b' d k = unchanged _ h b b' d.changes (record 
 step h (closing p (Ok x)) b b' d k = closed_run h b b' p x (closing_accepted (in_book b) p x d.answered) d.changes k
 step h (closing p (Err f)) b b' d k = unchanged _ h b b' d.changes (record { standings = k.standings; closings = k.closings; prices = k.prices; bounds = k.bounds; imbalances = k.imbalances; payments = k.payments })
 step h (settling q (Ok x)) b b' d k =
-    let s = passed (party_fault (in_book b) q) (payable (in_book b) q) x.cents d.answered in
+    let s = all_passed (party_fault (in_book b) q) (payable (in_book b) q) x.cents d.answered in
     settled_run h b b' q x (party_known (in_book b) q s.0) d.changes k
 step h (settling q (Err f)) b b' d k = unchanged _ h b b' d.changes (record { standings = k.standings; closings = k.closings; prices = k.prices; bounds = k.bounds; imbalances = k.imbalances; payments = k.payments })
 
@@ -216,9 +215,9 @@ payable_after h b q k =
 
 answered_after : (h : List Event) (e : Event) (b : Book) → Reached h b → Answered (in_book b) e → Answered (after_run b.period_count b.party_count h) e
 answered_after h (pricing p m r a) b k d = subst (λ (x : Quarter). IsPricingAnswer (option_or (period_fault (in_book b) p) (if is_closed x then Some (QuarterClosed p) else None)) p m r a) (k.standings p) d
-answered_after h (metering p q v a) b k d = subst (λ (x : Quarter). kwh_of a ≡ unless_fault (option_or (period_fault (in_book b) p) (option_or (party_fault (in_book b) q) (option_or (if is_closed x then Some (QuarterClosed p) else None) (option_map Metering (metering_fault v))))) (imbalance v)) (k.standings p) d
-answered_after h (closing p a) b k d = subst (λ (x : Quarter). a ≡ unless_refused (period_fault (in_book b) p) (closing_answer p x)) (k.standings p) d
-answered_after h (settling q a) b k d = d ∙ ap (unless_fault (party_fault (in_book b) q)) (payable_after h b q k)
+answered_after h (metering p q v a) b k d = subst (λ (x : Quarter). kwh_of a ≡ option_map_or Err (option_or (period_fault (in_book b) p) (option_or (party_fault (in_book b) q) (option_or (if is_closed x then Some (QuarterClosed p) else None) (option_map Metering (metering_fault v))))) (Ok (imbalance v))) (k.standings p) d
+answered_after h (closing p a) b k d = subst (λ (x : Quarter). a ≡ option_map_or Err (period_fault (in_book b) p) (closing_answer p x)) (k.standings p) d
+answered_after h (settling q a) b k d = d ∙ ap (λ z. option_map_or Err (party_fault (in_book b) q) (Ok z)) (payable_after h b q k)
 
 fair : (n m : ℕ) (h : List Event) (e : Event) → Answered (after_run n m h) e → FairlyPaid n m (e ∷ h)
 fair n m h (pricing p s r a) d = tt
@@ -226,7 +225,7 @@ fair n m h (metering p q v a) d = tt
 fair n m h (closing p a) d = tt
 fair n m h (settling q (Err f)) d = tt
 fair n m h (settling q (Ok x)) d =
-    let s = passed (party_fault (after_run n m h) q) (payable (after_run n m h) q) x.cents d in
+    let s = all_passed (party_fault (after_run n m h) q) (payable (after_run n m h) q) x.cents d in
     let t : ℤ = imbalance_amount (after_run n m h) q in
     rw (eq-eqb q q refl) (record { divides = omega arith; close = omega (arith, ints, s.1, (nearest_rounded t 1000 (omega arith)).close) })
 

@@ -7,13 +7,14 @@ use Rattle.settlement.specs.declared.book.Book.{Book}
 use Rattle.settlement.specs.declared.book.TheConstants.{MOST_PERIODS, MOST_PARTIES}
 use Rattle.settlement.specs.declared.fault.CountFault.{CountFault}
 use Rattle.settlement.specs.declared.party.Party.{Party}
+use Rattle.settlement.specs.declared.party.TheConstants.{MOST_PAID}
 
 party_same : (p q : Party) → p.imbalances ≡ q.imbalances → p.paid ≡ q.paid → p ≡ q
 party_same p q e f = λ i. record {
   imbalances = e i;
   paid = f i;
   places = is_prop→PathP (λ j. MOST_PERIODS ≤ length (e j)) (λ j. le_prop) p.places q.places i;
-  payments = is_prop→PathP (λ j. nat_abs (f j).cents ≤ 15_000_000_000_000) (λ j. le_prop) p.payments q.payments i;
+  payments = is_prop→PathP (λ j. nat_abs (f j).cents ≤ MOST_PAID) (λ j. le_prop) p.payments q.payments i;
 }
 
 parties_same : (ps qs : List Party) → map (λ (p : Party). p.imbalances) ps ≡ map (λ (p : Party). p.imbalances) qs → map (λ (p : Party). p.paid) ps ≡ map (λ (p : Party). p.paid) qs → ps ≡ qs

@@ -3,10 +3,14 @@ use Rattle.std.proofs.Common.{◌≡◌, ℕ, zero, suc, ◌+◌, ◌*◌, ◌<�
 use borrow.Author.Differences.{ints}
 use Rattle.std.proofs.lemmas.Int.{to_z-of_z, unsigned_abs-mul}
 use Rattle.std.proofs.lemmas.Nat.{mul-le}
+use Rattle.metering.specs.declared.imbalance.TheConstants.{MOST_IMBALANCE}
 use Rattle.units.proofs.Rounds.{nearest_rounded}
 use Rattle.units.specs.Rounding.{rounded}
 use Rattle.settlement.specs.Known.{Known, imbalance_amount, payable, sum_to}
 use Rattle.settlement.specs.Standings.{standing_cents}
+use Rattle.settlement.specs.declared.book.TheConstants.{MOST_PERIODS}
+use Rattle.settlement.specs.declared.party.TheConstants.{MOST_PAID}
+use Rattle.settlement.specs.declared.quarter.TheConstants.{MOST_AMOUNT}
 use Rattle.settlement.specs.declared.quarter.Quarter.{Quarter}
 use Rattle.settlement.specs.declared.quarter.Quarter.TheVariants.{Blank, Priced, Closed}
 
@@ -15,13 +19,13 @@ cents_small Blank = omega arith
 cents_small (Priced q) = q.price.bounded
 cents_small (Closed q) = q.price.bounded
 
-pub term_small : (v x : ℤ) → nat_abs v ≤ 15_000_000 → nat_abs x ≤ 9_999_900 → nat_abs (v *ℤ x) ≤ 149_998_500_000_000
-term_small v x a b = rw unsigned_abs-mul (mul-le (nat_abs v) (nat_abs x) 15_000_000 9_999_900 a b)
+pub term_small : (v x : ℤ) → nat_abs v ≤ MOST_IMBALANCE → nat_abs x ≤ 9_999_900 → nat_abs (v *ℤ x) ≤ MOST_AMOUNT
+term_small v x a b = rw unsigned_abs-mul (mul-le (nat_abs v) (nat_abs x) MOST_IMBALANCE 9_999_900 a b)
 
-pub sum_fits : (s t : ℤ) (i : ℕ) → nat_abs s ≤ i * 149_998_500_000_000 → i < 100 → nat_abs t ≤ 149_998_500_000_000 → SFits w64 (s +ℤ t)
+pub sum_fits : (s t : ℤ) (i : ℕ) → nat_abs s ≤ i * MOST_AMOUNT → i < MOST_PERIODS → nat_abs t ≤ MOST_AMOUNT → SFits w64 (s +ℤ t)
 sum_fits s t i a l b = omega (arith, ints)
 
-pub sum_small : (s t : ℤ) (i : ℕ) → nat_abs s ≤ i * 149_998_500_000_000 → nat_abs t ≤ 149_998_500_000_000 → nat_abs (s +ℤ t) ≤ (i + 1) * 149_998_500_000_000
+pub sum_small : (s t : ℤ) (i : ℕ) → nat_abs s ≤ i * MOST_AMOUNT → nat_abs t ≤ MOST_AMOUNT → nat_abs (s +ℤ t) ≤ (i + 1) * MOST_AMOUNT
 sum_small s t i a b = omega (arith, ints)
 
 sum_to_more : (i : ℕ) (f : ℕ → ℤ) → sum_to (i + 1) f ≡ sum_to i f +ℤ f i
@@ -48,7 +52,7 @@ pub same_payable : (k l : Known) (q : ℕ) → imbalance_amount k q ≡ imbalanc
 same_payable k l q t p = cc
 
 -- the cents that T comes to, and their size, where T is handed over as the machine's number
-pub due_small : (t r : ℤ) → nat_abs t ≤ 100 * 149_998_500_000_000 → r ≡ rounded (to_z w64 (of_z w64 t)) 1000 → (r ≡ rounded t 1000) × (nat_abs r ≤ 15_000_000_000_000)
+pub due_small : (t r : ℤ) → nat_abs t ≤ MOST_PERIODS * MOST_AMOUNT → r ≡ rounded (to_z w64 (of_z w64 t)) 1000 → (r ≡ rounded t 1000) × (nat_abs r ≤ MOST_PAID)
 due_small t r h e =
     let f : SFits w64 t = omega (arith, ints) in
     let s : r ≡ rounded t 1000 = e ∙ ap (λ (z : ℤ). rounded z 1000) (to_z-of_z w64 t f) in

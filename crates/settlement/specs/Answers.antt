@@ -36,16 +36,15 @@ pricing_fault k p = option_or (period_fault k p) (closed_fault k p)
 
 -- the checks of a metering: 9, 10, 11, 13
 abbrev pub metering_call_fault : Known → ℕ → ℕ → Values → Option BookFault
-metering_call_fault k p q v = option_or (period_fault k p) (option_or (party_fault k q) (option_or (closed_fault k p) (option_map Metering (metering_fault v))))
+metering_call_fault k p q v =
+    option_or (period_fault k p)
+    (option_or (party_fault k q)
+    (option_or (closed_fault k p)
+    (option_map Metering (metering_fault v))))
 
 -- the checks of a question on a party's imbalance: 9, 10
 abbrev pub place_fault : Known → ℕ → ℕ → Option BookFault
 place_fault k p q = option_or (period_fault k p) (party_fault k q)
-
--- the answer that is next, unless a check is not passed
-abbrev pub unless_refused : {X F : Type 0} → Option F → Result X F → Result X F
-unless_refused (Some f) a = Err f
-unless_refused None a = a
 
 -- PRICING
 

@@ -1,10 +1,11 @@
 -- A call with its arguments and its answer is an event: which answer it has by what is known, and what it changes.
 use Rattle.std.specs.Prelude.{◌≡◌, ℕ, ◌+ℤ◌, Ok, Err, Result}
-use Rattle.metering.specs.Imbalances.{Values, imbalance, kwh_of, unless_fault}
+use Rattle.std.specs.Option.{option_map_or}
+use Rattle.metering.specs.Imbalances.{Values, imbalance, kwh_of}
 use Rattle.metering.specs.declared.imbalance.Imbalance.{Imbalance}
 use Rattle.source.specs.Meanings.{Meaning}
 use Rattle.units.specs.declared.euros.Amount.{Amount}
-use Rattle.settlement.specs.Answers.{IsLawfulRulebook, IsPricingAnswer, Rules, cents_of, closing_answer, metering_call_fault, party_fault, period_fault, pricing_fault, unless_refused}
+use Rattle.settlement.specs.Answers.{IsLawfulRulebook, IsPricingAnswer, Rules, cents_of, closing_answer, metering_call_fault, party_fault, period_fault, pricing_fault}
 use Rattle.settlement.specs.Books.{in_book, paid_to}
 use Rattle.settlement.specs.Changes.{FiledAs, Metered, Paid}
 use Rattle.settlement.specs.Known.{Known, payable}
@@ -22,9 +23,9 @@ pub data Event : Type 0 where
 -- how each call is answered, accepted or refused, by what is known before it
 abbrev pub Answered : Known → Event → Type 0
 Answered k (pricing p m r a) = IsPricingAnswer (pricing_fault k p) p m r a
-Answered k (metering p q v a) = kwh_of a ≡ unless_fault (metering_call_fault k p q v) (imbalance v)
-Answered k (closing p a) = a ≡ unless_refused (period_fault k p) (closing_answer p (k.quarter p))
-Answered k (settling q a) = cents_of a ≡ unless_fault (party_fault k q) (payable k q)
+Answered k (metering p q v a) = kwh_of a ≡ option_map_or Err (metering_call_fault k p q v) (Ok (imbalance v))
+Answered k (closing p a) = a ≡ option_map_or Err (period_fault k p) (closing_answer p (k.quarter p))
+Answered k (settling q a) = cents_of a ≡ option_map_or Err (party_fault k q) (Ok (payable k q))
 
 -- exactly one answer fits a call on what is known
 abbrev pub OnlyAnswer : Known → Event → Type 0

@@ -7,6 +7,7 @@ use Rattle.settlement.specs.declared.fault.BookFault.TheVariants.{PeriodOutOfRan
 use Rattle.settlement.specs.declared.fault.CountFault.{CountFault}
 use Rattle.settlement.specs.declared.fault.CountFault.TheVariants.{Periods, Parties}
 
+-- 9: no such period; 10: no such party; 11: closed; 12: blank; meter values and a quote keep their own number
 abbrev pub book_number : BookFault → ℕ
 book_number (PeriodOutOfRange p) = 9
 book_number (PartyOutOfRange q) = 10
@@ -15,7 +16,7 @@ book_number (QuarterBlank p) = 12
 book_number (Metering f) = metering_number f
 book_number (NoQuote p f) = quote_number f
 
--- a quote's fault keeps its own place, and stands beside the period
+-- the period or the party; meter values keep their own place, and so does a quote's fault, which stands beside the period
 abbrev pub book_place : BookFault → ℕ
 book_place (PeriodOutOfRange p) = p
 book_place (PartyOutOfRange q) = q
@@ -24,10 +25,12 @@ book_place (QuarterBlank p) = p
 book_place (Metering f) = metering_place f
 book_place (NoQuote p f) = quote_place f
 
+-- 14: no book can have that count
 abbrev pub count_number : CountFault → ℕ
 count_number Periods = 14
 count_number Parties = 14
 
+-- 0: the count of periods; 1: of parties
 abbrev pub count_place : CountFault → ℕ
 count_place Periods = 0
 count_place Parties = 1

@@ -1,9 +1,13 @@
 // How a quarter of the book stands, and the calls that it meets.
 ghost use Rattle.std.specs.Prelude.{◌≡◌, ◌≤◌, ◌*ℤ◌, unsigned_abs};
 ghost use Rattle.settlement.specs.Standings.{quote_in, standing_cents};
+ghost use Rattle.settlement.specs.declared.quarter.TheConstants.{MOST_AMOUNT};
 
 use metering::Imbalance;
 use pricing::{Quote, QuoteFault};
+
+// The most thousandths of a cent, either way, of an imbalance at a price: 15,000,000 kWh at 9,999,900.
+const MOST_AMOUNT: u64 = 149_998_500_000_000;
 
 /// A quarter with what is filed of it: the direction, code and price of its quote.
 #[derive(Clone, Copy)]
@@ -27,7 +31,7 @@ impl Quarter {
     // The imbalance at the standing price, in thousandths of a cent.
     pub(crate) fn amount_for(self, imbalance: Imbalance) -> i64
         ensures product { result ≡ imbalance.kwh *ℤ standing_cents self }
-        ensures bound { unsigned_abs result ≤ 149_998_500_000_000 }
+        ensures bound { unsigned_abs result ≤ MOST_AMOUNT }
     {
         imbalance.kwh() * self.cents()
     }

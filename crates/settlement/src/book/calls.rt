@@ -6,6 +6,8 @@ ghost use Rattle.settlement.specs.Events.{pricing, metering, closing, settling};
 ghost use Rattle.settlement.specs.Known.{imbalance_amount};
 ghost use Rattle.settlement.specs.Promises.{IsSoundCall};
 ghost use Rattle.settlement.specs.steps.Turns.{Turned, meets};
+ghost use Rattle.settlement.specs.declared.book.TheConstants.{MOST_PERIODS};
+ghost use Rattle.settlement.specs.declared.quarter.TheConstants.{MOST_AMOUNT};
 
 use crate::book::Book;
 use crate::fault::BookFault;
@@ -50,7 +52,7 @@ impl Book {
     fn imbalance_amount(&self, party: usize) -> i64
         requires { party < self.now.party_count }
         ensures in_all { result ≡ imbalance_amount (in_book self.now) party }
-        ensures bound { unsigned_abs result ≤ 100 * 149_998_500_000_000 }
+        ensures bound { unsigned_abs result ≤ MOST_PERIODS * MOST_AMOUNT }
     {
         let quarters = &self.quarters[..self.period_count];
         let mut sum = 0;

@@ -7,6 +7,7 @@ use Rattle.std.proofs.lemmas.Slice.Zip.{zip_turn}
 use Rattle.metering.specs.Imbalances.{balanced}
 use Rattle.settlement.specs.Books.{imbalance_at, imbalances_of, quarter_at}
 use Rattle.settlement.specs.Standings.{standing_cents}
+use Rattle.settlement.specs.declared.quarter.TheConstants.{MOST_AMOUNT}
 use Rattle.settlement.specs.declared.quarter.Quarter.TheVariants.{Blank}
 use Rattle.settlement.proofs.Readings.{row_of}
 use Rattle.settlement.proofs.Sums.{sum_fits, sum_more, sum_small}
@@ -35,7 +36,7 @@ term_is c =
     let t = turn c in
     rw (c.amount_for-sum.ensures.product, t.1, t.2) refl
 
-sum_so_far : (c : goal.After-amount_for-sum) → nat_abs c.loop-quarter.sum ≤ so_far c * 149_998_500_000_000
+sum_so_far : (c : goal.After-amount_for-sum) → nat_abs c.loop-quarter.sum ≤ so_far c * MOST_AMOUNT
 sum_so_far c = simp c.loop-quarter.sum-is at c.loop-quarter.invariant.4
 
 fits_sum : (c : goal.After-amount_for-sum) → SFits w64 (c.loop-quarter.sum +ℤ term c)

@@ -41,7 +41,7 @@ returns-in_err-imbalance c =
     let s : is_closed (quarter_at b p) ≡ false = takes_values p (quarter_at b p) _ c.in_ok-turn.ensures.answers in
     let w = err_from_is_err_and c.from_residual-in_err-imbalance.result c.from_residual-in_err-imbalance.ensures.1 in
     let f = c.in_err-imbalance.field-0.0 in
-    rw (w.1, w.2) (sound_call _ _ _ (record { lawful = tt; answered = meter_answered (in_book b) p c.args.party (values_of c.args.values.now) (Err f) (Err (Metering f)) c.in_ok-has_period.ensures.within c.in_ok-has_party.ensures.within s c.in_err-imbalance.ensures refl; changes = c.turn.ensures.changes }))
+    rw (w.1, w.2) (sound_call _ _ _ (record { lawful = tt; answered = meter_answered (in_book b) p c.args.party (values_of c.args.values.now) (Err f) (Err (Metering f)) c.in_ok-has_period.ensures.within c.in_ok-has_party.ensures.within s c.in_err-imbalance.ensures.imbalance_or_first_fault refl; changes = c.turn.ensures.changes }))
 
 pub returns : goal.returns
 returns c =
@@ -57,7 +57,7 @@ returns c =
     let row = row_of b' q c.index-parties-party.result (rw same l) in
     sound_call (metering p q v (Ok i)) b _ (record {
       lawful = tt;
-      answered = meter_answered (in_book b) p q v (Ok i) (Ok i) c.in_ok-has_period.ensures.within l s c.in_ok-imbalance.ensures refl;
+      answered = meter_answered (in_book b) p q v (Ok i) (Ok i) c.in_ok-has_period.ensures.within l s c.in_ok-imbalance.ensures.imbalance_or_first_fault refl;
       changes = record {
         counts = (ap (λ (w : Book). w.period_count) same, ap (λ (w : Book). w.party_count) same);
         quarters = ap (λ (w : Book). w.quarters) same;

@@ -2,13 +2,14 @@ use Rattle.std.proofs.Common.{◌≤◌, ℤ, ◌*ℤ◌, nat_abs, refl, arith, 
 use borrow.Author.Differences.{ints}
 use Rattle.std.proofs.lemmas.Int.{to_z-of_z}
 use Rattle.settlement.specs.Standings.{standing_cents}
+use Rattle.settlement.specs.declared.quarter.TheConstants.{MOST_AMOUNT}
 use Rattle.settlement.proofs.Sums.{cents_small, term_small}
 use Rattle.settlement.proofs.quarter.Quarter.amount_for.Goals as goal
 
 abbrev term : goal.After-cents → ℤ
 term c = c.kwh.result *ℤ c.cents.result
 
-small : (c : goal.After-cents) → nat_abs (term c) ≤ 149_998_500_000_000
+small : (c : goal.After-cents) → nat_abs (term c) ≤ MOST_AMOUNT
 small c = rw (c.kwh.ensures, c.cents.ensures) (term_small c.args.imbalance.kwh (standing_cents c.args.self) c.args.imbalance.bounded (cents_small c.args.self))
 
 fits : (c : goal.After-cents) → SFits w64 (term c)
