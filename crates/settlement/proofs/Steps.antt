@@ -1,5 +1,5 @@
 -- Each answer of the code is the one that what is known gives.
-use Rattle.std.proofs.Common.{◌≡◌, ℕ, ◌<◌, ◌≤◌, true, false, ℤ, ◌+ℤ◌, ◌-ℤ◌, nat_abs, Some, None, Ok, Err, Option, Result, sym, refl, ap, ◌∙◌, subst, arith, w64, SFits, to_z, of_z}
+use Rattle.std.proofs.Common.{◌≡◌, ℕ, ◌<◌, ◌≤◌, true, false, ℤ, ◌-ℤ◌, nat_abs, Some, None, Ok, Err, Option, Result, sym, refl, ap, ◌∙◌, subst, arith, w64, to_z, of_z}
 use borrow.Author.Differences.{ints}
 use Rattle.std.specs.Prelude.{if◌then◌else◌}
 use Rattle.std.specs.Option.{option_map, option_map_or, option_or}
@@ -107,6 +107,3 @@ settle_answered k q z l e = ap Ok e ∙ ap (λ o. option_map_or Err o (Ok (payab
 -- a difference of two amounts of cents, as the machine makes it
 pub less_is : (r p : ℤ) → nat_abs r ≤ MOST_PAID → nat_abs p ≤ MOST_PAID → to_z w64 (of_z w64 (to_z w64 (of_z w64 r) -ℤ to_z w64 (of_z w64 p))) ≡ r -ℤ p
 less_is r p a b = omega (arith, ints)
-
-pub paid_in_all : (r p q x : ℤ) → SFits w64 r → x ≡ r -ℤ p → p ≡ q → to_z w64 (of_z w64 r) ≡ q +ℤ x
-paid_in_all r p q x f a b = omega (arith, ints)

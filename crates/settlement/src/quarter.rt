@@ -29,6 +29,7 @@ impl Quarter {
     }
 
     // The imbalance at the standing price, in thousandths of a cent.
+    #[tactic(auto, using(crate::proofs::Sums::cents_small, crate::proofs::Sums::term_small))]
     pub(crate) fn amount_for(self, imbalance: Imbalance) -> i64
         ensures product { result ≡ imbalance.kwh *ℤ standing_cents self }
         ensures bound { unsigned_abs result ≤ MOST_AMOUNT }

@@ -1,9 +1,8 @@
 use Rattle.std.proofs.Common.{refl}
 use Rattle.std.proofs.lemmas.Result.{err_from_is_err_and}
 use Rattle.settlement.specs.Books.{in_book}
-use Rattle.settlement.specs.Events.{closing}
 use Rattle.settlement.proofs.Kept.{sound_call}
-use Rattle.settlement.proofs.Steps.{close_answered, close_past}
+use Rattle.settlement.proofs.Steps.{close_past}
 use Rattle.settlement.proofs.book.Book.close.Goals as goal
 
 pub returns-in_err-has_period : goal.returns-in_err-has_period
@@ -11,8 +10,3 @@ returns-in_err-has_period c =
     let w = err_from_is_err_and c.from_residual.result c.from_residual.ensures.1 in
     let e = c.in_err-has_period.ensures.past in
     rw (w.1, w.2, e.0) (sound_call _ _ _ (record { lawful = tt; answered = close_past (in_book c.args.self.now) c.args.period e.1; changes = refl }))
-
-pub returns : goal.returns
-returns c =
-    sound_call (closing c.args.period c.turn.result) c.args.self.now c.turn.new.self
-    (record { lawful = tt; answered = close_answered (in_book c.args.self.now) c.args.period c.turn.result c.in_ok-has_period.ensures.within c.turn.ensures.answers; changes = c.turn.ensures.changes })

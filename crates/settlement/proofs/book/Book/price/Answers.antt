@@ -2,9 +2,8 @@ use Rattle.std.proofs.Common.{refl}
 use Rattle.std.proofs.lemmas.Result.{err_from_is_err_and}
 use Rattle.settlement.specs.Answers.{Rules}
 use Rattle.settlement.specs.Books.{in_book}
-use Rattle.settlement.specs.Events.{pricing}
 use Rattle.settlement.proofs.Kept.{sound_call}
-use Rattle.settlement.proofs.Steps.{price_answered, price_past}
+use Rattle.settlement.proofs.Steps.{price_past}
 use Rattle.settlement.proofs.book.Book.price.Goals as goal
 
 pub returns-in_err-has_period : goal.returns-in_err-has_period
@@ -14,15 +13,3 @@ returns-in_err-has_period g c =
     let w = err_from_is_err_and c.from_residual.result c.from_residual.ensures.1 in
     let e = c.in_err-has_period.ensures.past in
     rw (w.1, w.2, e.0) (sound_call _ _ _ (record { lawful = g.met.R.Rulebook.keeps_laws r; answered = price_past (in_book c.args.self.now) c.args.period (g.S.PriceSource.means c.args.source.now) rules e.1; changes = refl }))
-
-pub returns : goal.returns
-returns g c =
-    let m = g.S.PriceSource.means c.args.source.now in
-    let r = c.args.rulebook.now in
-    let rules : Rules = record { code = g.R.Rulebook.CODE; net = g.R.Rulebook.NET; ruling = g.R.Rulebook.ruling r } in
-    sound_call (pricing c.args.period m rules c.turn.result) c.args.self.now c.turn.new.self
-    (record {
-      lawful = g.met.R.Rulebook.keeps_laws r;
-      answered = price_answered (in_book c.args.self.now) c.args.period m rules c.turn.result c.quote_source-answer.result c.in_ok-has_period.ensures.within c.quote_source-answer.ensures.quote_of_the_source c.turn.ensures.answers;
-      changes = c.turn.ensures.changes;
-    })
