@@ -65,6 +65,7 @@ fn quotes_of(bytes: &[u8]) -> Result<FiveQuotes, SheetFault>
 }
 
 /// The lines of a sheet of any bytes.
+#[tactic(auto, using(crate::proofs::Only::only_answer))]
 pub fn lines_of(bytes: &[u8]) -> QuarterLines
     ensures answer { IsAnswer bytes.now result }
     ensures only_answer { (l : QuarterLines) → IsAnswer bytes.now l → l ≡ result }
