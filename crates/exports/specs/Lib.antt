@@ -1,3 +1,4 @@
-pub mod BenchDays
+-- The quotes of a sheet in plain numbers, and the bench's day. The steps are cited by private functions alone.
 pub mod Quarters
+pub mod BenchDays
 pub mod steps

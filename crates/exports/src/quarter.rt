@@ -71,9 +71,7 @@ fn every_code(quote: PlainQuote) -> PlainQuarter
     }
 }
 
-/// The quotes of a sheet of any bytes. A refused sheet has its refusal under each code.
-#[unsafe(no_mangle)]
-pub extern "C" fn fumeliosa_quarter(bytes: &[u8]) -> PlainQuarter
+fn quarter_of(bytes: &[u8]) -> PlainQuarter
     ensures answer_in_plain_numbers { IsPlainQuarter bytes.now result }
     ensures only_answer { (r : PlainQuarter) → IsPlainQuarter bytes.now r → r ≡ result }
 {
@@ -82,4 +80,13 @@ pub extern "C" fn fumeliosa_quarter(bytes: &[u8]) -> PlainQuarter
         Ok(()) => PlainQuarter::from(five_quotes(&sheet)),
         Err(fault) => every_code(refused_as(fault)),
     }
+}
+
+/// The quotes of a sheet of any bytes. A refused sheet has its refusal under each code.
+#[unsafe(no_mangle)]
+pub extern "C" fn fumeliosa_quarter(bytes: &[u8]) -> PlainQuarter
+    ensures answer_in_plain_numbers { IsPlainQuarter bytes.now result }
+    ensures only_answer { (r : PlainQuarter) → IsPlainQuarter bytes.now r → r ≡ result }
+{
+    quarter_of(bytes)
 }

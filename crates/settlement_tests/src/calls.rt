@@ -2,7 +2,7 @@
 use metering::{Imbalance, MeterValues};
 use pricing::Finnish;
 use settlement::{Book, BookFault, Quarter};
-use source::{Row, Table};
+use source::{Row, SLOTS, Table};
 use units::{Price, Quantity, Refusal, ZoneNet};
 
 /// Prices a quarter of so many idle slots at the avoided value, where there is one.
@@ -12,9 +12,9 @@ pub(crate) fn price(
     slots: usize,
     cents: Option<i64>,
 ) -> Result<Quarter, BookFault> {
-    let rows = [Row::IDLE; 228];
+    let rows = [Row::IDLE; SLOTS];
     let table = Table {
-        rows: &rows[..slots.min(228)],
+        rows: &rows[..slots.min(SLOTS)],
         zone_net: ZoneNet::zero(),
         avoided: cents.and_then(|cents| Price::new(cents).ok()),
     };
@@ -23,7 +23,7 @@ pub(crate) fn price(
 
 /// Files a price.
 pub(crate) fn price_at(book: &mut Book, period: usize, cents: i64) -> Result<Quarter, BookFault> {
-    price(book, period, 228, Some(cents))
+    price(book, period, SLOTS, Some(cents))
 }
 
 /// Meters an allocated volume alone.

@@ -2,6 +2,7 @@
 use crate::calls::{meter, price, price_at, refused};
 use metering::MeterValues;
 use settlement::{Book, CountFault, Quarter};
+use source::SLOTS;
 use std::test::Fail;
 use units::Refusal;
 
@@ -35,7 +36,7 @@ fn pricing(rt: HostRuntime) -> Result<(), Fail> {
     let mut book = Book::start(2, 1)?;
     assert!(rt; refused(price(&mut book, 2, 9, None), 9, 2));
     assert!(rt; refused(price(&mut book, 1, 9, None), 7, 9));
-    assert!(rt; refused(price(&mut book, 1, 228, None), 8, 228));
+    assert!(rt; refused(price(&mut book, 1, SLOTS, None), 8, 228));
     assert!(rt; matches!(book.quarter(1)?, Quarter::Blank));
     price_at(&mut book, 1, 700)?;
     assert!(rt; refused(price(&mut book, 1, 9, None), 7, 9));

@@ -3,7 +3,7 @@ use Rattle.pricing.specs.FiveQuotes.{AreQuotesUnlessFault}
 use Rattle.sheet.specs.Sheets.{first_fault, sheet_meaning}
 use Rattle.exports.proofs.Only.{only_plain}
 use Rattle.exports.specs.Quarters.{every_code}
-use Rattle.exports.proofs.quarter.fumeliosa_quarter.Goals as goal
+use Rattle.exports.proofs.quarter.quarter_of.Goals as goal
 
 pub returns-in-Ok-clause-answer_in_plain_numbers : goal.returns-in-Ok-clause-answer_in_plain_numbers
 returns-in-Ok-clause-answer_in_plain_numbers c =
