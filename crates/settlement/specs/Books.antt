@@ -35,7 +35,13 @@ paid_to b q = slice_index_or (payments_in b) q nothing
 
 -- what a book says of the settlement
 abbrev pub in_book : Book → Known
-in_book b = record { periods = b.period_count; parties = b.party_count; quarter = quarter_at b; imbalance = λ p q. (imbalance_at b p q).kwh; paid = λ q. (paid_to b q).cents }
+in_book b = record {
+  periods = b.period_count;
+  parties = b.party_count;
+  quarter = quarter_at b;
+  imbalance = λ p q. (imbalance_at b p q).kwh;
+  paid = λ q. (paid_to b q).cents;
+}
 
 -- a book as it is started: each of its quarters is blank, none of its parties is metered or paid
 pub record IsFresh (b : Book) : Type 0 where

@@ -33,8 +33,7 @@ StandsFor (directed d x) v q = (q.direction ≡ quoted_direction d) × HalfCent 
 StandsFor avoided (Some v) q = (q.direction ≡ Avoided) × HalfCent q.price.cents (exact_of_price v)
 StandsFor avoided None q = ⊥
 
--- the quarter x stands at a quote with the rulebook's code, by what the rulebook gave for what the source told at the
--- pricing f
+-- x stands at a quote that is right by what the rulebook of the pricing f gave for what its source told
 pub record RightPrice (f : Filing) (x : Quarter) : Type 0 where
   pub quote : Quote
   pub filed : quote_in x ≡ Some quote
@@ -43,22 +42,22 @@ pub record RightPrice (f : Filing) (x : Quarter) : Type 0 where
   pub gives : AreFiguresOf f.source figures
   pub stands : StandsFor (f.rules.ruling figures) f.source.avoided quote
 
--- an up price is at most half a cent below the weighted mean of the counting demand, and not above the highest up price
--- formed; a down price is its mirror image
+-- up: at most half a cent below the weighted mean of what counts, not above the highest price formed; down mirrors it
 abbrev pub WithinBounds : QuoteDirection → Meaning → ℤ → Type 0
 WithinBounds Up m p = IsBounded dir.Up (side_of dir.Up m.slots) p
 WithinBounds Down m p = IsBounded dir.Down (side_of dir.Down m.slots) p
 WithinBounds Avoided m p = Unit {0}
 
--- where the last call of h is an accepted settling, its party's payments are at most half a cent from its latest imbalances
--- at the standing prices
+-- an accepted settling left its party's payments within half a cent of its latest imbalances at the standing prices
 abbrev pub FairlyPaid : ℕ → ℕ → List Event → Type 0
 FairlyPaid n m [] = Unit {0}
 FairlyPaid n m (pricing p s r a ∷ h) = Unit {0}
 FairlyPaid n m (metering p q v a ∷ h) = Unit {0}
 FairlyPaid n m (closing p a ∷ h) = Unit {0}
 FairlyPaid n m (settling q (Err f) ∷ h) = Unit {0}
-FairlyPaid n m (settling q (Ok x) ∷ h) = HalfCent (payments_since (settling q (Ok x) ∷ h) q) (record { n = imbalance_amount (after_run n m (settling q (Ok x) ∷ h)) q; d = 1000 })
+FairlyPaid n m (settling q (Ok x) ∷ h) =
+    HalfCent (payments_since (settling q (Ok x) ∷ h) q)
+    (record { n = imbalance_amount (after_run n m (settling q (Ok x) ∷ h)) q; d = 1000 })
 
 -- each settling, when it was the last call, left its party fairly paid
 abbrev pub AllFairlyPaid : ℕ → ℕ → List Event → Type 0
@@ -91,8 +90,7 @@ pub record Sound (h : List Event) (b : Book) : Type 0 where
   -- a party that was settled had then what it was due, to half a cent
   pub fair : AllFairlyPaid b.period_count b.party_count h
 
--- the call e made b' of b as it says, no other answer was open to it, and whatever calls led to b, the run that ends with
--- e is sound
+-- e made b' of b as it says, no other answer was open to it, and each run that led to b goes on with e and is sound
 pub record IsSoundCall (e : Event) (b b' : Book) : Type 0 where
   pub did : Did e b b'
   pub only : OnlyAnswer (in_book b) e

@@ -88,7 +88,13 @@ payments_since (e ∷ h) q = option_map_or (λ x. x +ℤ payments_since h q) (pa
 
 -- what a run says of a book that was started with these counts
 abbrev pub after_run : ℕ → ℕ → List Event → Known
-after_run n m h = record { periods = n; parties = m; quarter = quarter_after h; imbalance = imbalance_after h; paid = payments_since h }
+after_run n m h = record {
+  periods = n;
+  parties = m;
+  quarter = quarter_after h;
+  imbalance = imbalance_after h;
+  paid = payments_since h;
+}
 
 -- WHERE THEY LEAD
 

@@ -14,9 +14,11 @@ pub record MostCounts : Type 0 where
   pub periods : MOST_PERIODS ≡ 100
   pub parties : MOST_PARTIES ≡ 32
 
--- 14: a count of periods from 1 to the most, and then one of parties
+-- 14: the count of periods is not from 1 to the most; then that of parties
 abbrev pub count_fault : ℕ → ℕ → Option CountFault
-count_fault n m = option_or (if nat_le 1 n && nat_le n MOST_PERIODS then None else Some Periods) (if nat_le 1 m && nat_le m MOST_PARTIES then None else Some Parties)
+count_fault n m =
+    option_or (if nat_le 1 n && nat_le n MOST_PERIODS then None else Some Periods)
+    (if nat_le 1 m && nat_le m MOST_PARTIES then None else Some Parties)
 
 -- a book with these counts, from which every run begins
 pub record Begins (n m : ℕ) (b : Book) : Type 0 where
