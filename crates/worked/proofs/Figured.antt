@@ -9,20 +9,21 @@ use Rattle.pricing.specs.declared.quote.QuoteDirection.TheVariants.{Avoided}
 use Rattle.source.specs.Meanings.{Meaning}
 use Rattle.source.specs.declared.direction.Direction.{Direction}
 use Rattle.source.specs.declared.direction.Direction.TheVariants.{Up, Down}
+use Rattle.source.specs.declared.slot.TheConstants.{SLOTS}
 use Rattle.units.specs.Exact.{Exact}
 use Rattle.units.specs.Rounding.{rounded}
 use Rattle.units.specs.declared.price.Price.{Price}
 use Rattle.worked.specs.Cases.{LacksAvoidedValue, IsQuotedAs}
 
 abbrev pub Reports : Meaning → Type 0
-Reports m = ReportedTo m.slots 228
+Reports m = ReportedTo m.slots SLOTS
 
-pub given : (m : Meaning) → Reports m → SourceGives m (net_to m.slots 228) m.zone m.avoided (side_of Up m.slots) (side_of Down m.slots)
+pub given : (m : Meaning) → Reports m → SourceGives m (net_to m.slots SLOTS) m.zone m.avoided (side_of Up m.slots) (side_of Down m.slots)
 given m h = record { reported_all = h; local_net_is = refl; zone_net_is = refl; avoided_is = refl; up_is = refl; down_is = refl }
 
 abbrev pub figured : (m : Meaning) → Reports m → Figures
 figured m h = record {
-  local_net = net_to m.slots 228;
+  local_net = net_to m.slots SLOTS;
   zone_net = m.zone;
   avoided = m.avoided;
   up = side_of Up m.slots;

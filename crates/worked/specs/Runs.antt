@@ -4,6 +4,7 @@ use Rattle.std.proofs.Common.{leb→le}
 use Rattle.std.specs.Result.{result_unwrap_or}
 use Rattle.metering.specs.Imbalances.{Values, balanced}
 use Rattle.metering.specs.declared.imbalance.Imbalance.{Imbalance}
+use Rattle.metering.specs.declared.imbalance.TheConstants.{MOST_IMBALANCE}
 use Rattle.pricing.specs.declared.quote.QuoteDirection.TheVariants.{Up}
 use Rattle.settlement.specs.Answers.{Rules}
 use Rattle.settlement.specs.Events.{Answered, Event, metering, pricing, settling}
@@ -24,7 +25,7 @@ allocated z = record { schedules = []; allocated = z; adjustment = pos 0 }
 
 -- an imbalance in kWh, in its bounds
 abbrev pub imbalance : ℤ → Imbalance
-imbalance kwh = if_t (nat_le (unsigned_abs kwh) 15_000_000) (λ h. record { kwh = kwh; bounded = leb→le (unsigned_abs kwh) 15_000_000 h }) balanced
+imbalance kwh = if_t (nat_le (unsigned_abs kwh) MOST_IMBALANCE) (λ h. record { kwh = kwh; bounded = leb→le (unsigned_abs kwh) MOST_IMBALANCE h }) balanced
 
 -- so many kWh of party 0 at a price in a period, after the calls h
 abbrev pub metered_at : Meaning → Rules → ℕ → ℤ → ℤ → List Event → List Event
