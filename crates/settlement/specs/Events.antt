@@ -20,7 +20,7 @@ pub data Event : Type 0 where
   closing : (period : ℕ) → Result Quarter BookFault → Event
   settling : (party : ℕ) → Result Amount BookFault → Event
 
--- how each call is answered, accepted or refused, by what is known before it
+-- how each call is answered by what is known before it: its first fault, or else what follows from what is known
 abbrev pub Answered : Known → Event → Type 0
 Answered k (pricing p m r a) = IsPricingAnswer (pricing_fault k p) p m r a
 Answered k (metering p q v a) = kwh_of a ≡ option_map_or Err (metering_call_fault k p q v) (Ok (imbalance v))
