@@ -1,0 +1,17 @@
+-- The statuses with which programs end.
+use Rattle.std.specs.Prelude.{◌≡◌, ℕ, ◌⊎◌}
+use Rattle.command.specs.declared.program.Status.{Status}
+use Rattle.command.specs.declared.program.Status.TheVariants.{Answered, Refused}
+
+-- 0 it answered, 1 its data was refused
+abbrev pub status_of : Status → ℕ
+status_of Answered = 0
+status_of Refused = 1
+
+-- its words, its input, its output or memory failed
+abbrev pub failed_status : ℕ
+failed_status = 2
+
+-- a program ends with one of these
+abbrev pub IsStatus : ℕ → Type 0
+IsStatus s = (s ≡ status_of Answered) ⊎ ((s ≡ status_of Refused) ⊎ (s ≡ failed_status))

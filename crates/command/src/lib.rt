@@ -1,0 +1,14 @@
+// What all programs share: the words after their name, their input, their failures and their statuses.
+#![tactic(auto)]
+
+mod failure;
+mod input;
+mod manual;
+mod program;
+mod request;
+
+pub use failure::Failure;
+pub use input::read_at_most;
+pub use manual::Manual;
+pub use program::{Program, Status, run};
+pub use request::{Misuse, Options, Request, Takes, request_of};

@@ -1,0 +1,116 @@
+// A program, from its words to its status.
+ghost use Rattle.std.specs.Prelude.{◌≡◌};
+ghost use Rattle.std.specs.Process.{exit_status};
+ghost use Rattle.command.specs.Statuses.{IsStatus, failed_status, status_of};
+
+use crate::failure::Failure;
+use crate::manual::{Help, Manual, Misused, Version};
+use crate::request::{Options, Request, request_of};
+use std::fmt::Display;
+use std::io::Read;
+use std::process::ExitCode;
+use std::rt::Runtime;
+use std::{env, fs, io};
+
+/// How a program ended where nothing outside it failed.
+#[derive(Clone, Copy, PartialEq, Eq)]
+pub enum Status {
+    /// It answered.
+    Answered,
+    /// Its data was refused.
+    Refused,
+}
+
+/// What answers some input.
+pub trait Program {
+    fn manual(&self) -> Manual<'_>;
+
+    fn answer<R: Runtime + AllocGlobal, I: Read + Drop>(
+        &self,
+        rt: &R,
+        input: I,
+        strict: bool,
+    ) -> Result<Status, Failure>;
+}
+
+impl From<Status> for ExitCode {
+    ghost from_gives = { λ s e. exit_status e ≡ status_of s };
+
+    fn from(status: Status) -> ExitCode {
+        match status {
+            Status::Answered => ExitCode::SUCCESS,
+            Status::Refused => ExitCode::FAILURE,
+        }
+    }
+}
+
+/// Runs a program on what its words ask for: help, its version, or an answer to a file or to standard input.
+pub fn run<R: Runtime + AllocGlobal, P: Program>(rt: &R, program: &P) -> ExitCode
+    ensures { IsStatus (exit_status result) }
+{
+    let manual = program.manual();
+    let words = match words(rt) {
+        Ok(words) => words,
+        Err(error) => return failed(rt, manual.name, None, Failure::Arguments(error)),
+    };
+    match request_of(words.as_slice(), manual.takes) {
+        Ok(Request::Help) => printed(rt, manual.name, Help(manual)),
+        Ok(Request::Version) => printed(rt, manual.name, Version(manual)),
+        Ok(Request::Answer(options)) => answered(rt, program, options),
+        Err(misuse) => {
+            let _ = eprint!(rt; "{}", Misused { manual, misuse });
+            ExitCode::from(2)
+        }
+    }
+}
+
+// The words after the program's name.
+fn words<R: Runtime + AllocGlobal>(rt: &R) -> io::Result<Vec<String>> {
+    let mut words = Vec::new(rt.alloc());
+    for word in env::args(rt)?.skip(1) {
+        words.push(word)?;
+    }
+    Ok(words)
+}
+
+fn printed<R: Runtime + AllocGlobal, D: Display + Drop>(rt: &R, name: &str, text: D) -> ExitCode
+    ensures { IsStatus (exit_status result) }
+{
+    match rt.print(text) {
+        Ok(()) => ExitCode::SUCCESS,
+        Err(error) => failed(rt, name, None, Failure::Output(error)),
+    }
+}
+
+fn answered<R: Runtime + AllocGlobal, P: Program>(
+    rt: &R,
+    program: &P,
+    options: Options<'_>,
+) -> ExitCode
+    ensures { IsStatus (exit_status result) }
+{
+    let file = options.file.filter(|file| *file != "-");
+    let answer = match file {
+        None => program.answer(rt, rt.reader(), options.strict),
+        Some(path) => match fs::open(rt, path) {
+            Ok(file) => program.answer(rt, file, options.strict),
+            Err(error) => Err(Failure::Input(error)),
+        },
+    };
+    match answer {
+        Ok(status) => ExitCode::from(status),
+        Err(failure) => failed(rt, program.manual().name, file, failure),
+    }
+}
+
+fn failed<R: Runtime + AllocGlobal>(
+    rt: &R,
+    name: &str,
+    file: Option<&str>,
+    failure: Failure,
+) -> ExitCode
+    ensures { exit_status result ≡ failed_status }
+{
+    failure.report(rt, name, file);
+    ExitCode::from(2)
+}
