@@ -2,26 +2,11 @@
 ghost use Rattle.std.specs.Prelude.{◌≡◌, ◌+◌, ◌^◌, ◌<◌, ◌≤◌, ◌++◌};
 ghost use Rattle.arrayvec.specs.ArrayVec.{array_vec_len};
 ghost use Rattle.writing.specs.Bytes.{folded, groups_of, number_bytes};
-ghost use Rattle.writing.specs.declared.number.TheConstants.{NUMBER_BYTES, SHEET_BYTES};
+ghost use Rattle.sheet.specs.declared.length.TheConstants.{NUMBER_BYTES, SHEET_BYTES};
 
 use arrayvec::ArrayVec;
-use source::SLOTS;
+use sheet::SHEET_BYTES;
 use units::Quantity;
-
-/// The most bytes of a number.
-const NUMBER_BYTES: usize = 4;
-
-/// The most bytes of the avoided value: its flag and a price.
-pub(crate) const AVOIDED_BYTES: usize = 1 + NUMBER_BYTES;
-
-/// The most bytes of a record: its lead byte, a demand and two prices.
-pub(crate) const RECORD_BYTES: usize = 1 + 3 * NUMBER_BYTES;
-
-/// The most bytes of a head: the opening, which has four, the zone net and the avoided value.
-const HEAD_BYTES: usize = 4 + NUMBER_BYTES + AVOIDED_BYTES;
-
-/// The most bytes of a sheet.
-pub(crate) const SHEET_BYTES: usize = HEAD_BYTES + SLOTS * RECORD_BYTES;
 
 /// The bytes of a sheet so far.
 pub(crate) type SheetBytes = ArrayVec<u8, SHEET_BYTES>;

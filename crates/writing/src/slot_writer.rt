@@ -3,7 +3,7 @@ ghost use Rattle.std.specs.Prelude.{◌≡◌, ◌+◌, ◌≤◌, ◌++◌};
 ghost use Rattle.arrayvec.specs.ArrayVec.{array_vec_len};
 ghost use Rattle.sheet.specs.Records.{lead_byte};
 ghost use Rattle.writing.specs.Bytes.{avoided_bytes, price_bytes, reading_bytes, slot_bytes};
-ghost use Rattle.writing.specs.declared.number.TheConstants.{AVOIDED_BYTES, NUMBER_BYTES, RECORD_BYTES, SHEET_BYTES};
+ghost use Rattle.sheet.specs.declared.length.TheConstants.{AVOIDED_BYTES, NUMBER_BYTES, RECORD_BYTES, SHEET_BYTES};
 
 use crate::number::{SheetBytes, put_quantity};
 use source::{Reading, Slot};

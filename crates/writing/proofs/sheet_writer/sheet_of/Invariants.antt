@@ -1,7 +1,7 @@
 use Rattle.std.proofs.Common.{◌≡◌, ◌+◌, ◌*◌, ◌≤◌, ◌++◌, length, take}
 use Rattle.sheet.specs.Heads.{opening}
 use Rattle.writing.specs.Bytes.{head_bytes, slots_bytes}
-use Rattle.writing.specs.declared.number.TheConstants.{HEAD_BYTES, RECORD_BYTES}
+use Rattle.sheet.specs.declared.length.TheConstants.{HEAD_BYTES, RECORD_BYTES}
 use Rattle.writing.proofs.sheet_writer.sheet_of.Given as goal
 
 abbrev pub invariant-loop-byte : goal.invariant-loop-byte
