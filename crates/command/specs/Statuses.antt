@@ -1,5 +1,6 @@
 -- The statuses with which programs end.
-use Rattle.std.specs.Prelude.{◌≡◌, ℕ, ◌⊎◌}
+use Rattle.std.specs.Prelude.{◌≡◌, ℕ, ◌⊎◌, Ok, Err, Result}
+use Rattle.command.specs.declared.failure.Failure.{Failure}
 use Rattle.command.specs.declared.program.Status.{Status}
 use Rattle.command.specs.declared.program.Status.TheVariants.{Answered, Refused}
 
@@ -11,6 +12,11 @@ status_of Refused = 1
 -- its words, its input, its output or memory failed
 abbrev pub failed_status : ℕ
 failed_status = 2
+
+-- the status of an answer, or of what failed in its place
+abbrev pub answer_status : Result Status Failure → ℕ
+answer_status (Ok s) = status_of s
+answer_status (Err f) = failed_status
 
 -- a program ends with one of these
 abbrev pub IsStatus : ℕ → Type 0

@@ -10,5 +10,5 @@ mod request;
 pub use failure::Failure;
 pub use input::read_at_most;
 pub use manual::Manual;
-pub use program::{Program, Status, run};
+pub use program::{Program, Status, ended_by_words, run, status_of};
 pub use request::{Misuse, Options, Request, Takes, request_of};

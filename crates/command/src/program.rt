@@ -1,11 +1,11 @@
 // A program, from its words to its status.
-ghost use Rattle.std.specs.Prelude.{◌≡◌};
+ghost use Rattle.std.specs.Prelude.{◌≡◌, IfSome};
 ghost use Rattle.std.specs.Process.{exit_status};
-ghost use Rattle.command.specs.Statuses.{IsStatus, failed_status, status_of};
+ghost use Rattle.command.specs.Statuses.{IsStatus, answer_status, failed_status, status_of};
 
 use crate::failure::Failure;
 use crate::manual::{Help, Manual, Misused, Version};
-use crate::request::{Options, Request, request_of};
+use crate::request::{Misuse, Options, Request, request_of};
 use std::fmt::Display;
 use std::io::Read;
 use std::process::ExitCode;
@@ -54,9 +54,51 @@ pub fn run<R: Runtime + AllocGlobal, P: Program>(rt: &R, program: &P) -> ExitCod
         Err(error) => return failed(rt, manual.name, None, Failure::Arguments(error)),
     };
     match request_of(words.as_slice(), manual.takes) {
-        Ok(Request::Help) => printed(rt, manual.name, Help(manual)),
-        Ok(Request::Version) => printed(rt, manual.name, Version(manual)),
         Ok(Request::Answer(options)) => answered(rt, program, options),
+        other => said(rt, manual, other),
+    }
+}
+
+/// Of a program that reads nothing, the status with which it ends at once where its words ask for help or its version,
+/// or can't be taken.
+pub fn ended_by_words<R: Runtime + AllocGlobal>(rt: &R, manual: Manual<'_>) -> Option<ExitCode>
+    ensures { IfSome result (λ e. IsStatus (exit_status e)) }
+{
+    let words = match words(rt) {
+        Ok(words) => words,
+        Err(error) => return Some(failed(rt, manual.name, None, Failure::Arguments(error))),
+    };
+    match request_of(words.as_slice(), manual.takes) {
+        Ok(Request::Answer(_)) => None,
+        other => Some(said(rt, manual, other)),
+    }
+}
+
+/// The status of an answer; a failure is said on standard error.
+pub fn status_of<R: Runtime + AllocGlobal>(
+    rt: &R,
+    name: &str,
+    answer: Result<Status, Failure>,
+) -> ExitCode
+    ensures { exit_status result ≡ answer_status answer }
+{
+    match answer {
+        Ok(status) => ExitCode::from(status),
+        Err(failure) => failed(rt, name, None, failure),
+    }
+}
+
+// What is said where no answer is asked for.
+fn said<R: Runtime + AllocGlobal>(
+    rt: &R,
+    manual: Manual<'_>,
+    request: Result<Request<'_>, Misuse<'_>>,
+) -> ExitCode
+    ensures { IsStatus (exit_status result) }
+{
+    match request {
+        Ok(Request::Version) => printed(rt, manual.name, Version(manual)),
+        Ok(_) => printed(rt, manual.name, Help(manual)),
         Err(misuse) => {
             let _ = eprint!(rt; "{}", Misused { manual, misuse });
             ExitCode::from(2)

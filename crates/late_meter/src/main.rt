@@ -8,8 +8,10 @@ mod step;
 mod tables;
 
 use afternoon::Afternoon;
+use command::{Failure, Manual, Status, Takes, ended_by_words, status_of};
 use halt::Halt;
 use metering::MeterValues;
+use std::process::ExitCode;
 use tables::QUARTERS;
 
 const RINK: usize = 0;
@@ -48,8 +50,20 @@ fn late_value(afternoon: &mut Afternoon<'_>) -> Result<(), Halt> {
     afternoon.meter(0, RINK, &late)
 }
 
-fn main(rt: HostRuntime) -> Result<(), Halt> {
-    let mut afternoon = Afternoon::start(&rt, QUARTERS.len(), 2)?;
+const MANUAL: Manual = Manual {
+    name: "late_meter",
+    summary: "a rink's afternoon in the area's book, with a meter value that comes late",
+    takes: Takes {
+        file: false,
+        strict: false,
+    },
+    reads: "nothing",
+    writes: "a line for each call of the book",
+    example: "late_meter",
+};
+
+fn all_calls(rt: &HostRuntime) -> Result<(), Halt> {
+    let mut afternoon = Afternoon::start(rt, QUARTERS.len(), 2)?;
     for (period, told) in QUARTERS.iter().enumerate() {
         afternoon.price(period, told)?;
     }
@@ -60,4 +74,23 @@ fn main(rt: HostRuntime) -> Result<(), Halt> {
     late_value(&mut afternoon)?;
     afternoon.settle(RINK)?;
     afternoon.settle(HALL)
+}
+
+// A call that the book refuses is said on standard error.
+fn answer(rt: &HostRuntime) -> Result<Status, Failure> {
+    match all_calls(rt) {
+        Ok(()) => Ok(Status::Answered),
+        Err(Halt::Io(error)) => Err(Failure::Output(error)),
+        Err(halt) => {
+            let _ = eprintln!(rt; "late_meter: {halt}");
+            Ok(Status::Refused)
+        }
+    }
+}
+
+fn main(rt: HostRuntime) -> ExitCode {
+    match ended_by_words(&rt, MANUAL) {
+        Some(status) => status,
+        None => status_of(&rt, MANUAL.name, answer(&rt)),
+    }
 }

@@ -4,7 +4,7 @@
 use command::{Failure, Manual, Program, Status, Takes, read_at_most, run};
 use lines::lines_of;
 use pricing::{FiveQuotes, QuoteFault};
-use sheet::SHEET_BYTES;
+use sheet::DECIDING_BYTES;
 use std::io::{Eprint, Read};
 use std::process::ExitCode;
 use std::rt::Runtime;
@@ -42,9 +42,7 @@ impl Program for Quarter {
         input: I,
         strict: bool,
     ) -> Result<Status, Failure> {
-        let sheet = read_at_most(rt.alloc(), input, SHEET_BYTES as u64 + 1).map_err(
-            Failure::Input,
-        )?;
+        let sheet = read_at_most(rt.alloc(), input, DECIDING_BYTES as u64).map_err(Failure::Input)?;
         let lines = lines_of(sheet.as_slice());
         rt.print(lines).map_err(Failure::Output)?;
         let Ok(quotes) = lines.answer else {

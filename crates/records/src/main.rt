@@ -1,14 +1,46 @@
-// Prints a line for each record of a packed sheet on standard input.
+// Prints a line for each record of a packed sheet.
 #![tactic(auto)]
 
+use command::{Failure, Manual, Program, Status, Takes, read_at_most, run};
 use lines::RecordLines;
-use std::io;
+use sheet::{DECIDING_BYTES, Sheet};
 use std::io::Read;
+use std::process::ExitCode;
+use std::rt::Runtime;
 
-fn main(rt: HostRuntime) -> io::Result<()> {
-    let mut sheet = Vec::new(rt.alloc());
-    rt.stdin().read_to_end(&mut sheet)?;
-    rt.print(RecordLines {
-        sheet: sheet.as_slice(),
-    })
+struct Records;
+
+impl Program for Records {
+    fn manual(&self) -> Manual<'_> {
+        Manual {
+            name: "records",
+            summary: "the records of a packed sheet, one after another",
+            takes: Takes {
+                file: true,
+                strict: false,
+            },
+            reads: "a packed sheet",
+            writes: "a line for each record: its slot, the place of its first byte, that byte, and the bytes after it in hexadecimal; and !, the number and the place of the first fault, if there is one",
+            example: "records examples/damaged.sheet",
+        }
+    }
+
+    fn answer<R: Runtime + AllocGlobal, I: Read + Drop>(
+        &self,
+        rt: &R,
+        input: I,
+        _strict: bool,
+    ) -> Result<Status, Failure> {
+        let bytes = read_at_most(rt.alloc(), input, DECIDING_BYTES as u64).map_err(Failure::Input)?;
+        let sheet = bytes.as_slice();
+        rt.print(RecordLines { sheet }).map_err(Failure::Output)?;
+        match Sheet::read(sheet).check() {
+            Ok(()) => Ok(Status::Answered),
+            Err(_) => Ok(Status::Refused),
+        }
+    }
+}
+
+fn main(rt: HostRuntime) -> ExitCode {
+    run(&rt, &Records)
 }

@@ -16,6 +16,7 @@ mod report;
 mod rules;
 mod writer;
 
+use command::{Failure, Manual, Status, Takes, ended_by_words, status_of};
 use compare::{compare_sheet, same_table};
 use day::{Day, Metered};
 use generator::{Dice, KINDS};
@@ -23,6 +24,7 @@ use published::CASES;
 use reader::read;
 use report::Report;
 use std::io;
+use std::process::ExitCode;
 use writer::sheet_of;
 
 fn quarters(report: &mut Report<'_>) -> io::Result<()> {
@@ -176,8 +178,20 @@ fn generated(report: &mut Report<'_>, dice: &mut Dice) -> io::Result<()> {
     Ok(())
 }
 
-fn main(rt: HostRuntime) -> io::Result<()> {
-    let mut report = Report::new(&rt);
+const MANUAL: Manual = Manual {
+    name: "rival",
+    summary: "prices and payments worked out a second way, and compared with the library's",
+    takes: Takes {
+        file: false,
+        strict: false,
+    },
+    reads: "nothing",
+    writes: "a line for each named case and for each hundred of the others, and a closing count",
+    example: "rival",
+};
+
+fn compare_all(rt: &HostRuntime) -> io::Result<bool> {
+    let mut report = Report::new(rt);
     let mut dice = Dice::new();
     quarters(&mut report)?;
     sheets(&mut report)?;
@@ -185,4 +199,20 @@ fn main(rt: HostRuntime) -> io::Result<()> {
     calls(&mut report, &mut dice)?;
     generated(&mut report, &mut dice)?;
     report.close()
+}
+
+// A difference is a refusal of what was compared.
+fn answer(rt: &HostRuntime) -> Result<Status, Failure> {
+    if compare_all(rt).map_err(Failure::Output)? {
+        Ok(Status::Answered)
+    } else {
+        Ok(Status::Refused)
+    }
+}
+
+fn main(rt: HostRuntime) -> ExitCode {
+    match ended_by_words(&rt, MANUAL) {
+        Some(status) => status,
+        None => status_of(&rt, MANUAL.name, answer(&rt)),
+    }
 }

@@ -110,12 +110,13 @@ impl Report<'_> {
         self.span("quarters", number, 100)
     }
 
-    /// The closing lines.
-    pub(crate) fn close(&self) -> io::Result<()> {
+    /// The closing lines, and whether no case differs.
+    pub(crate) fn close(&self) -> io::Result<bool> {
         println!(self.rt; "other: {}", self.tallies.other)?;
         for tally in self.tallies.rows.iter() {
             println!(self.rt; "{}: {}", tally.outcome, tally.count)?;
         }
-        println!(self.rt; "{} cases, {} differences", self.cases, self.differences)
+        println!(self.rt; "{} cases, {} differences", self.cases, self.differences)?;
+        Ok(self.differences == 0)
     }
 }

@@ -12,7 +12,7 @@ mod slot_record;
 
 pub use fault::{HEAD, NumberFault, RecordFault, SheetFault, Spot};
 pub use head::{Head, OPENING};
-pub use length::{AVOIDED_BYTES, HEAD_BYTES, NUMBER_BYTES, RECORD_BYTES, SHEET_BYTES};
+pub use length::{AVOIDED_BYTES, DECIDING_BYTES, HEAD_BYTES, NUMBER_BYTES, RECORD_BYTES, SHEET_BYTES};
 pub use reader::Reader;
 pub use sheet::Sheet;
 pub use slot_record::Record;
