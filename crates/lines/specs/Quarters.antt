@@ -1,10 +1,15 @@
 -- The lines of what is answered of a sheet.
 use Rattle.std.specs.Prelude.{ℕ, List, [], ◌∷◌, ◌++◌, Ok, Err, Result}
+use Rattle.pricing.specs.Quotes.{Answer}
 use Rattle.pricing.specs.declared.codes.FiveQuotes.{FiveQuotes}
 use Rattle.sheet.specs.Faults.{fault_text}
 use Rattle.sheet.specs.declared.fault.SheetFault.{SheetFault}
 use Rattle.lines.specs.Texts.{answer_text, line_end}
 use Rattle.lines.specs.declared.quarter_lines.QuarterLines.{QuarterLines}
+
+-- the quote or the refusal of each code, from 1 to 5
+abbrev pub answers_by_code : FiveQuotes → List Answer
+answers_by_code q = q.weighted_average ∷ q.combined_automatic ∷ q.combined_all ∷ q.max_min ∷ q.finnish ∷ []
 
 -- the lines of codes 1 to 5, in that order
 abbrev pub five_text : FiveQuotes → List ℕ

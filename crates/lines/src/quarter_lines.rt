@@ -1,13 +1,13 @@
 // All lines of one quarter: a line for each code, or the refusal of its sheet.
 ghost use Rattle.std.specs.Prelude.{◌≡◌, Some};
 ghost use Rattle.lines.specs.Answers.{IsAnswer, IsPrinted};
-ghost use Rattle.lines.specs.Quarters.{five_text, lines_text};
+ghost use Rattle.lines.specs.Quarters.{answers_by_code, five_text, lines_text};
 ghost use Rattle.lines.specs.declared.quarter_lines.QuarterLines.{QuarterLines};
 
 use crate::line::Line;
 use pricing::{
-    CombinedAll, CombinedAutomatic, Finnish, FiveQuotes, MaxMin, Rulebook, WeightedAverage,
-    five_quotes,
+    CombinedAll, CombinedAutomatic, Finnish, FiveQuotes, MaxMin, Quote, QuoteFault, Rulebook,
+    WeightedAverage, five_quotes,
 };
 use sheet::{Sheet, SheetFault};
 use std::fmt;
@@ -43,6 +43,22 @@ impl fmt::Display for FiveLines {
 #[derive(Clone, Copy)]
 pub struct QuarterLines {
     pub answer: Result<FiveQuotes, SheetFault>,
+}
+
+impl FiveLines {
+    /// The quote or the refusal of each code, from 1 to 5.
+    pub fn answers(&self) -> [Result<Quote, QuoteFault>; 5]
+        ensures { result ≡ answers_by_code self.now.quotes }
+    {
+        let quotes = self.quotes;
+        [
+            quotes.weighted_average,
+            quotes.combined_automatic,
+            quotes.combined_all,
+            quotes.max_min,
+            quotes.finnish,
+        ]
+    }
 }
 
 impl fmt::Display for QuarterLines {

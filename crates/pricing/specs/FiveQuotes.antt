@@ -1,5 +1,5 @@
 -- The quotes of a source under codes 1 to 5.
-use Rattle.std.specs.Prelude.{◌≡◌, ℕ, List, [], ◌∷◌, Ok, Err, Result}
+use Rattle.std.specs.Prelude.{◌≡◌, ℕ, Ok, Err, Result}
 use Rattle.figures.specs.declared.fault.UnreportedSlot.{UnreportedSlot}
 use Rattle.figures.specs.declared.quarter_figures.Figures.{Figures}
 use Rattle.source.specs.Meanings.{Meaning}
@@ -16,10 +16,6 @@ pub record AreByCode (answers : ℕ → (Figures → Outcome) → Answer → Typ
   pub combined_all : answers 3 rulings.combined_all q.combined_all
   pub max_min : answers 4 rulings.max_min q.max_min
   pub finnish : answers 5 rulings.finnish q.finnish
-
--- the answers from code 1 to code 5
-abbrev pub answers_by_code : FiveQuotes → List Answer
-answers_by_code q = q.weighted_average ∷ q.combined_automatic ∷ q.combined_all ∷ q.max_min ∷ q.finnish ∷ []
 
 -- under each code the refusal at an unreported slot
 abbrev pub all_unreported : UnreportedSlot → FiveQuotes

@@ -1,6 +1,6 @@
 // The quotes of a quarter under codes 1 to 5.
 ghost use Rattle.std.specs.Prelude.{◌≡◌};
-ghost use Rattle.pricing.specs.FiveQuotes.{AreQuotesOfSource, all_unreported, answers_by_code};
+ghost use Rattle.pricing.specs.FiveQuotes.{AreQuotesOfSource, all_unreported};
 ghost use Rattle.pricing.specs.steps.FiveQuotes.{AreQuotesOfFigures};
 ghost use Rattle.pricing.specs.declared.codes.FiveQuotes.{FiveQuotes};
 
@@ -18,21 +18,6 @@ pub struct FiveQuotes {
     pub combined_all: Result<Quote, QuoteFault>,
     pub max_min: Result<Quote, QuoteFault>,
     pub finnish: Result<Quote, QuoteFault>,
-}
-
-impl FiveQuotes {
-    /// The quote or the refusal of each code, from 1 to 5.
-    pub fn answers(&self) -> [Result<Quote, QuoteFault>; 5]
-        ensures { result ≡ answers_by_code self.now }
-    {
-        [
-            self.weighted_average,
-            self.combined_automatic,
-            self.combined_all,
-            self.max_min,
-            self.finnish,
-        ]
-    }
 }
 
 impl From<UnreportedSlot> for FiveQuotes {

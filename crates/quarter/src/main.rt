@@ -2,8 +2,8 @@
 #![tactic(auto)]
 
 use command::{Failure, Manual, Program, Status, Takes, read_at_most, run};
-use lines::lines_of;
-use pricing::{FiveQuotes, QuoteFault};
+use lines::{FiveLines, lines_of};
+use pricing::QuoteFault;
 use sheet::DECIDING_BYTES;
 use std::io::{Eprint, Read};
 use std::process::ExitCode;
@@ -12,8 +12,8 @@ use std::rt::Runtime;
 struct Quarter;
 
 /// The slot for which the quotes are refused, if it is unreported.
-fn unreported(quotes: &FiveQuotes) -> Option<usize> {
-    quotes.answers().iter().find_map(|answer| match answer {
+fn unreported(lines: &FiveLines) -> Option<usize> {
+    lines.answers().iter().find_map(|answer| match answer {
         Err(QuoteFault::Unreported(fault)) => Some(fault.slot),
         _ => None,
     })
@@ -48,10 +48,11 @@ impl Program for Quarter {
         let Ok(quotes) = lines.answer else {
             return Ok(Status::Refused);
         };
-        if let Some(slot) = unreported(&quotes) {
+        let five = FiveLines { quotes };
+        if let Some(slot) = unreported(&five) {
             let _ = eprintln!(rt; "quarter: slot {slot} is unreported");
         }
-        if strict && quotes.answers().iter().any(|answer| answer.is_err()) {
+        if strict && five.answers().iter().any(|answer| answer.is_err()) {
             return Ok(Status::Refused);
         }
         Ok(Status::Answered)
