@@ -35,7 +35,7 @@ typedef struct {
 } fumeliosa_five_quotes;
 
 /* The quotes of a packed sheet of any bytes. A refused sheet has its refusal (1 to 6) under each code; a sheet with an
-   unreported slot 7 and that slot; 8 and 228 is a code that decides for a missing avoided value. */
+   unreported slot 7 and that slot; and a code that decides for the avoided value, where there is none, 8 and 228. */
 fumeliosa_five_quotes fumeliosa_quarter(const uint8_t *sheet, size_t length);
 
 /* Writes the packed sheet of what a sheet of any bytes tells, and answers how many bytes that takes. A buffer that is
