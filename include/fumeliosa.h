@@ -1,5 +1,5 @@
 /* Imbalance prices of a quarter, for callers in C: link libexports.a, which `rt lib` makes in crates/exports, and the
-   kit's libc_c.a. Nothing here allocates, and each function may be called from any thread. */
+   kit's liblibc_c.a. Nothing here allocates, and each function may be called from any thread. */
 #ifndef FUMELIOSA_H
 #define FUMELIOSA_H
 
