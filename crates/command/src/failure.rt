@@ -32,13 +32,16 @@ impl Failure {
     // and what can't be said is left.
     pub(crate) fn report<R: Eprint + AllocGlobal>(self, rt: &R, name: &str, file: Option<&str>) {
         let (place, error) = match self {
-            Failure::Output(error) if error.kind() == ErrorKind::BrokenPipe => return,
             Failure::Arguments(error) => ("arguments", error),
             Failure::Input(error) => (file.unwrap_or("standard input"), error),
             Failure::Output(error) => ("standard output", error),
             Failure::Memory => ("memory", io::Error::from(ErrorKind::OutOfMemory)),
         };
-        let _ = say(rt, name, place, error);
+        let _ = match error.kind() {
+            ErrorKind::BrokenPipe => Ok(()),
+            ErrorKind::OutOfMemory => eprintln!(rt; "{name}: out of memory"),
+            _ => say(rt, name, place, error),
+        };
     }
 }
 

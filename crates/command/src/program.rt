@@ -12,6 +12,9 @@ use std::process::ExitCode;
 use std::rt::Runtime;
 use std::{env, fs, io};
 
+/// The status where something outside the program failed.
+const FAILED: u8 = 2;
+
 /// How a program ended where nothing outside it failed.
 #[derive(Clone, Copy, PartialEq, Eq)]
 pub enum Status {
@@ -82,9 +85,21 @@ pub fn status_of<R: Runtime + AllocGlobal>(
 ) -> ExitCode
     ensures { exit_status result ≡ answer_status answer }
 {
+    ended(rt, name, None, answer)
+}
+
+// The same, of an answer to a file.
+fn ended<R: Runtime + AllocGlobal>(
+    rt: &R,
+    name: &str,
+    file: Option<&str>,
+    answer: Result<Status, Failure>,
+) -> ExitCode
+    ensures { exit_status result ≡ answer_status answer }
+{
     match answer {
         Ok(status) => ExitCode::from(status),
-        Err(failure) => failed(rt, name, None, failure),
+        Err(failure) => failed(rt, name, file, failure),
     }
 }
 
@@ -101,7 +116,7 @@ fn said<R: Runtime + AllocGlobal>(
         Ok(_) => printed(rt, manual.name, Help(manual)),
         Err(misuse) => {
             let _ = eprint!(rt; "{}", Misused { manual, misuse });
-            ExitCode::from(2)
+            ExitCode::from(FAILED)
         }
     }
 }
@@ -139,10 +154,7 @@ fn answered<R: Runtime + AllocGlobal, P: Program>(
             Err(error) => Err(Failure::Input(error)),
         },
     };
-    match answer {
-        Ok(status) => ExitCode::from(status),
-        Err(failure) => failed(rt, program.manual().name, file, failure),
-    }
+    ended(rt, program.manual().name, file, answer)
 }
 
 fn failed<R: Runtime + AllocGlobal>(
@@ -154,5 +166,5 @@ fn failed<R: Runtime + AllocGlobal>(
     ensures { exit_status result ≡ failed_status }
 {
     failure.report(rt, name, file);
-    ExitCode::from(2)
+    ExitCode::from(FAILED)
 }
