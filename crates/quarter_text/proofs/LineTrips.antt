@@ -145,13 +145,14 @@ module _ (a b : ℕ) (l : a ≤ b) (m : b < SLOTS) where
     some = omega (arith, low.some, length-append (decimal a) (45 ∷ decimal b));
   }
 
--- the word of slots is read as them
+-- the word of slots is read as them, and not as that of the others
 pub record SlotsRead (a b : ℕ) : Type 0 where
   pub word : Word (slots_text a b)
+  pub no_others : bytes_eq (slots_text a b) (codes "others") ≡ false
   pub range : (ws : Words) → range_line (slots_text a b ∷ ws) ≡ Ok (slots_from_to a b)
 
-manual_read : (a b : ℕ) → b ≡ a → Word (slots_text a a) → ((ws : Words) → range_line (slots_text a a ∷ ws) ≡ Ok (slots_from_to a a)) → SlotsRead a b
-manual_read a b e w r = subst (λ x. SlotsRead a x) (sym e) (record { word = w; range = r })
+manual_read : (a b : ℕ) → b ≡ a → Word (slots_text a a) → bytes_eq (slots_text a a) (codes "others") ≡ false → ((ws : Words) → range_line (slots_text a a ∷ ws) ≡ Ok (slots_from_to a a)) → SlotsRead a b
+manual_read a b e w n r = subst (λ x. SlotsRead a x) (sym e) (record { word = w; no_others = n; range = r })
 
 cycles_read : (a b : ℕ) (t : Bool) → (a == b) ≡ t → nat_lt a CYCLES ≡ true → a ≤ b → b < SLOTS → SlotsRead a b
 cycles_read a b true e c l m =
@@ -159,6 +160,7 @@ cycles_read a b true e c l m =
     let h = decimal_writes a (omega (arith, l, m)) in
     record {
       word = rw (c, e) (word_of_digits a (decimal a) h);
+      no_others = rw (c, e) (digits_first a (decimal a) h 111 (codes "thers") (omega arith));
       range = λ ws. rw (c, e, digits_first a (decimal a) h 115 (codes "cheduled") (omega arith), digits_first a (decimal a) h 117 (codes "p") (omega arith), digits_first a (decimal a) h 100 (codes "own") (omega arith)) (one_there a b l m ∙ ap (λ n. Ok (slots_from_to a n)) same);
     }
 cycles_read a b false e c l m =
@@ -166,17 +168,18 @@ cycles_read a b false e c l m =
     let no : (x : ℕ) (v : List ℕ) → 65 ≤ x → bytes_eq (decimal a ++ (45 ∷ decimal b)) (x ∷ v) ≡ false = no_letter (decimal a) (45 ∷ decimal b) h.only h.some in
     record {
       word = rw (c, e) (range_word a b l m);
+      no_others = rw (c, e) (no 111 (codes "thers") (omega arith));
       range = λ ws. rw (c, e, no 115 (codes "cheduled") (omega arith), no 117 (codes "p") (omega arith), no 100 (codes "own") (omega arith)) (both_there a b l m);
     }
 
 pub slots_read : (a b : ℕ) → OneLine a b → SlotsRead a b
 slots_read a b o =
     ⊎_elim
-    (λ (e : a ≡ SCHEDULED). manual_read a b (o.manual (omega (arith, e))) (rw e (record { bytes = refl; some = omega arith })) (λ ws. rw e refl))
+    (λ (e : a ≡ SCHEDULED). manual_read a b (o.manual (omega (arith, e))) (rw e (record { bytes = refl; some = omega arith })) (rw e refl) (λ ws. rw e refl))
     (λ (x : a ≡ SCHEDULED → ⊥). ⊎_elim
-    (λ (e : a ≡ DIRECT_UP). manual_read a b (o.manual (omega (arith, e))) (rw e (record { bytes = refl; some = omega arith })) (λ ws. rw e refl))
+    (λ (e : a ≡ DIRECT_UP). manual_read a b (o.manual (omega (arith, e))) (rw e (record { bytes = refl; some = omega arith })) (rw e refl) (λ ws. rw e refl))
     (λ (y : a ≡ DIRECT_UP → ⊥). ⊎_elim
-    (λ (e : a ≡ DIRECT_DOWN). manual_read a b (o.manual (omega (arith, e))) (rw e (record { bytes = refl; some = omega arith })) (λ ws. rw e refl))
+    (λ (e : a ≡ DIRECT_DOWN). manual_read a b (o.manual (omega (arith, e))) (rw e (record { bytes = refl; some = omega arith })) (rw e refl) (λ ws. rw e refl))
     (λ (z : a ≡ DIRECT_DOWN → ⊥). cycles_read a b (a == b) refl (lt-ltb a CYCLES (omega (arith, x, y, z, o.order, o.within))) o.order o.within)
     (cases_eq a DIRECT_DOWN))
     (cases_eq a DIRECT_UP))

@@ -49,10 +49,10 @@ leads_line l d e p h n u =
 -- THE HEAD
 
 abbrev netted : ZoneNet → Draft
-netted z = record { zone_net = Some z; avoided = NotYetSaid; named = replicate SLOTS None }
+netted z = record { zone_net = Some z; avoided = NotYetSaid; others = None; named = replicate SLOTS None }
 
 abbrev headed : ZoneNet → Option Price → Draft
-headed z v = record { zone_net = Some z; avoided = Said v; named = replicate SLOTS None }
+headed z v = record { zone_net = Some z; avoided = Said v; others = None; named = replicate SLOTS None }
 
 head_leads : (z : ZoneNet) (v : Option Price) → Leads (head_text z.kw v) blank (headed z v)
 unfolding head_text
@@ -89,7 +89,7 @@ run_leads z v a b s l o k =
     let words : words_of (slots_text a b ++ (32 ∷ told_text s)) ≡ slots_text a b ∷ told_words s = word_first (slots_text a b) (told_text s) r.word ∙ ap (λ w. slots_text a b ∷ w) (told_split s) in
     let line = leads_line (slots_text a b ++ (32 ∷ told_text s)) (with_slots (headed z v) l) (with_slots (headed z v) k.named)
     (inline_joined (slots_text a b) (32 ∷ told_text s) (inline_word (slots_text a b) r.word.bytes) (and_from true (inline (told_text s)) refl (told_inline s)))
-    (rw (words, r.range (told_words s), told_there (slots_text a b) s (slots_from_to a b), k.is) refl) in
+    (rw (words, r.no_others, r.range (told_words s), told_there (slots_text a b) s (slots_from_to a b), k.is) refl) in
     subst (λ t. Leads t (with_slots (headed z v) l) (with_slots (headed z v) k.named)) (append_assoc (slots_text a b) (32 ∷ told_text s) (10 ∷ [])) line
 
 -- after the first k slots
@@ -185,13 +185,13 @@ pub reads_back : (m : Meaning) → ReadsBack m
 unfolding text_of
 reads_back m =
     let s = stood m.slots m.zone m.avoided SLOTS (omega arith) in
-    let q : TextQuarter = record { zone_net = m.zone; avoided = m.avoided; named = s.named } in
+    let q : TextQuarter = record { zone_net = m.zone; avoided = m.avoided; others = idle; named = s.named } in
     let leads = leads_both (head_text m.zone.kw m.avoided) (lines_to m.slots SLOTS) blank (headed m.zone m.avoided) (with_slots (headed m.zone m.avoided) s.named) (head_leads m.zone m.avoided) s.leads in
     let text : List ℕ = head_text m.zone.kw m.avoided ++ lines_to m.slots SLOTS in
     let read : with_lines 0 blank (lines_of text) ≡ Ok (with_slots (headed m.zone m.avoided) s.named) = ap (λ t. with_lines 0 blank (lines_of t)) (sym (append-nil text)) ∙ (leads 0 []).1 in
     record {
       quarter = q;
-      read = ap (λ r. result_and_then r (λ d. finished (length (lines_of text)) d.named d.zone_net d.avoided)) read;
+      read = ap (λ r. result_and_then r (λ d. finished (length (lines_of text)) d.named d.others d.zone_net d.avoided)) read;
       alike = record {
         slots = λ k l. ap (λ o. unwrap_or o idle) (s.marked.before k (omega (arith, l, last_ends m.slots))) ∙ told_again (m.slots k);
         zones = refl;

@@ -1,24 +1,26 @@
 -- A quarter, read line by line.
 use Rattle.std.specs.Prelude.{ℕ, zero, suc, ◌+◌, ◌-◌, List, [], ◌∷◌, length, replicate, is_some, Some, None, Ok, Option, Result, slice_index_or, slice_set, if◌then◌else◌}
+use Rattle.std.specs.Option.{unwrap_or}
 use Rattle.units.specs.Chains.{result_and_then, result_map_err}
 use Rattle.source.specs.Slots.{Slot}
+use Rattle.source.specs.Tables.{idle}
 use Rattle.source.specs.declared.slot.TheConstants.{SLOTS}
 use Rattle.units.specs.declared.zone_net.ZoneNet.{ZoneNet}
 use Rattle.quarter_text.specs.Faults.{ReadOrFault, at_word, fault_in}
-use Rattle.quarter_text.specs.Lines.{Words, avoided_line, range_line, told_by, zone_net_line}
+use Rattle.quarter_text.specs.Lines.{Words, avoided_line, is_of_others, others_line, range_line, told_by, zone_net_line}
 use Rattle.quarter_text.specs.Words.{lines_of, words_of}
 use Rattle.quarter_text.specs.declared.draft.AvoidedValue.{AvoidedValue}
 use Rattle.quarter_text.specs.declared.draft.AvoidedValue.TheVariants.{NotYetSaid, Said}
 use Rattle.quarter_text.specs.declared.draft.Draft.{Draft}
 use Rattle.quarter_text.specs.declared.fault.Part.TheVariants as part
-use Rattle.quarter_text.specs.declared.fault.Problem.TheVariants.{Missing, NamedTwice}
+use Rattle.quarter_text.specs.declared.fault.Problem.TheVariants.{Missing, NamedTwice, OthersTwice}
 use Rattle.quarter_text.specs.declared.fault.TextFault.{TextFault}
 use Rattle.quarter_text.specs.declared.range.Range.{Range}
 use Rattle.quarter_text.specs.declared.quarter.TextQuarter.{TextQuarter}
 
--- before the first line: no slot is named
+-- before the first line: no slot is named, and nothing is said of the others
 abbrev pub blank : Draft
-blank = record { zone_net = None; avoided = NotYetSaid; named = replicate SLOTS None }
+blank = record { zone_net = None; avoided = NotYetSaid; others = None; named = replicate SLOTS None }
 
 -- the n slots from the first on are told so, unless one of them was named before
 abbrev pub name_slots : List (Option Slot) → ℕ → ℕ → Slot → ReadOrFault (List (Option Slot))
@@ -29,7 +31,7 @@ name_slots named first (suc n) s =
 
 -- a draft with these slots named
 abbrev pub with_slots : Draft → List (Option Slot) → Draft
-with_slots d l = record { zone_net = d.zone_net; avoided = d.avoided; named = l }
+with_slots d l = record { zone_net = d.zone_net; avoided = d.avoided; others = d.others; named = l }
 
 -- a draft after a line of slots
 abbrev pub with_range : Draft → Words → Range → ReadOrFault Draft
@@ -38,11 +40,21 @@ with_range d ws r =
     (λ told. result_and_then (name_slots d.named r.first (r.last + 1 - r.first) told)
     (λ named. Ok (with_slots d named)))
 
+-- a draft after a line that says this of the slots that no line names, which one line may say
+abbrev pub with_others : Draft → Slot → ReadOrFault Draft
+with_others d s =
+    if is_some d.others then at_word 0 OthersTwice
+    else Ok (record { zone_net = d.zone_net; avoided = d.avoided; others = Some s; named = d.named })
+
+-- a draft after a line of slots, or of the others
+abbrev pub with_slot_line : Draft → Words → ReadOrFault Draft
+with_slot_line d ws = if is_of_others ws then result_and_then (others_line ws) (with_others d) else result_and_then (range_line ws) (with_range d ws)
+
 -- a draft after a line that is not empty: first the zone net, then the avoided value, then slots
 abbrev pub with_words : Draft → Option ZoneNet → AvoidedValue → Words → ReadOrFault Draft
-with_words d None v ws = result_and_then (zone_net_line ws) (λ z. Ok (record { zone_net = Some z; avoided = d.avoided; named = d.named }))
-with_words d (Some z) NotYetSaid ws = result_and_then (avoided_line ws) (λ p. Ok (record { zone_net = d.zone_net; avoided = Said p; named = d.named }))
-with_words d (Some z) (Said v) ws = result_and_then (range_line ws) (with_range d ws)
+with_words d None v ws = result_and_then (zone_net_line ws) (λ z. Ok (record { zone_net = Some z; avoided = d.avoided; others = d.others; named = d.named }))
+with_words d (Some z) NotYetSaid ws = result_and_then (avoided_line ws) (λ p. Ok (record { zone_net = d.zone_net; avoided = Said p; others = d.others; named = d.named }))
+with_words d (Some z) (Said v) ws = with_slot_line d ws
 
 -- a draft after a line; an empty one says nothing
 abbrev pub with_line : Draft → Words → ReadOrFault Draft
@@ -58,12 +70,12 @@ abbrev pub with_lines : ℕ → Draft → List (List ℕ) → Result Draft TextF
 with_lines n d [] = Ok d
 with_lines n d (l ∷ ls) = result_and_then (in_line n (with_line d (words_of l))) (λ e. with_lines (n + 1) e ls)
 
--- what n lines tell, or the part of the head that they leave out
-abbrev pub finished : ℕ → List (Option Slot) → Option ZoneNet → AvoidedValue → Result TextQuarter TextFault
-finished n named None v = in_line n (at_word 0 (Missing part.Net))
-finished n named (Some z) NotYetSaid = in_line n (at_word 0 (Missing part.Avoided))
-finished n named (Some z) (Said v) = Ok (record { zone_net = z; avoided = v; named = named })
+-- what n lines tell, or the part of the head that they leave out; slots that no line names are idle, unless a line says what they are
+abbrev pub finished : ℕ → List (Option Slot) → Option Slot → Option ZoneNet → AvoidedValue → Result TextQuarter TextFault
+finished n named others None v = in_line n (at_word 0 (Missing part.Net))
+finished n named others (Some z) NotYetSaid = in_line n (at_word 0 (Missing part.Avoided))
+finished n named others (Some z) (Said v) = Ok (record { zone_net = z; avoided = v; others = unwrap_or others idle; named = named })
 
 -- the quarter of a text, or the first fault; where the text ends too early, after its last line
 abbrev pub quarter_of : List ℕ → Result TextQuarter TextFault
-quarter_of text = result_and_then (with_lines 0 blank (lines_of text)) (λ d. finished (length (lines_of text)) d.named d.zone_net d.avoided)
+quarter_of text = result_and_then (with_lines 0 blank (lines_of text)) (λ d. finished (length (lines_of text)) d.named d.others d.zone_net d.avoided)

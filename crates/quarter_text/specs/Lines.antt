@@ -67,6 +67,17 @@ avoided_line ws =
     (λ avoided. result_and_then (end_at ws 2)
     (λ ended. Ok avoided)))
 
+-- whether the line is of the slots that no line names
+abbrev pub is_of_others : Words → Bool
+is_of_others ws = is_word ws 0 (codes "others")
+
+-- what the line of those slots says of each of them: it is unreported
+abbrev pub others_line : Words → ReadOrFault Slot
+others_line ws =
+    result_and_then (keyword ws 1 part.Unreported (codes "unreported"))
+    (λ word. result_and_then (end_at ws 2)
+    (λ ended. Ok None))
+
 -- the slots that a line names
 abbrev pub range_line : Words → ReadOrFault Range
 range_line ws = result_and_then (word_at ws 0 part.Slots) range_of

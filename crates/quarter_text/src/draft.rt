@@ -1,13 +1,13 @@
 // A quarter of which some lines are read.
 ghost use Rattle.std.specs.Prelude.{◌≡◌, ◌+◌, ◌-◌, ◌<◌, ◌≤◌, IfOk};
-ghost use Rattle.quarter_text.specs.Drafts.{blank, finished, name_slots, with_line};
+ghost use Rattle.quarter_text.specs.Drafts.{blank, finished, name_slots, with_line, with_others};
 ghost use Rattle.quarter_text.specs.Steps.{left, words_in};
 
 use crate::fault::{Part, Problem, TextFault, WordFault, at_word};
 use crate::line::Line;
 use crate::quarter::TextQuarter;
 use crate::range::Range;
-use source::{SLOTS, Slot};
+use source::{Row, SLOTS, Slot};
 use units::{Price, ZoneNet};
 
 /// The avoided value, as far as the lines so far say it: there is one, or there is none.
@@ -17,11 +17,12 @@ pub(crate) enum AvoidedValue {
     Said(Option<Price>),
 }
 
-/// What the lines so far tell; a slot that none of them names is nothing yet.
+/// What the lines so far tell; a slot that none of them names is nothing yet, nor is what the others are.
 #[derive(Clone, Copy)]
 pub(crate) struct Draft {
     zone_net: Option<ZoneNet>,
     avoided: AvoidedValue,
+    others: Option<Slot>,
     named: [Option<Slot>; SLOTS],
 }
 
@@ -48,8 +49,20 @@ impl Draft {
         Draft {
             zone_net: None,
             avoided: AvoidedValue::NotYetSaid,
+            others: None,
             named: [None; SLOTS],
         }
+    }
+
+    // The slots that no line names are told so, unless a line before told them.
+    fn tell_others(&mut self, told: Slot) -> Result<(), WordFault>
+        ensures { left result self.new ≡ with_others self.old told }
+    {
+        if self.others.is_some() {
+            return at_word(0, Problem::OthersTwice);
+        }
+        self.others = Some(told);
+        Ok(())
     }
 
     /// Takes one line more; an empty one says nothing.
@@ -64,6 +77,10 @@ impl Draft {
             (Some(_), AvoidedValue::NotYetSaid) => {
                 self.avoided = AvoidedValue::Said(line.avoided()?);
             }
+            (Some(_), AvoidedValue::Said(_)) if line.is_of_others() => {
+                let others = line.others()?;
+                self.tell_others(others)?;
+            }
             (Some(_), AvoidedValue::Said(_)) => {
                 let range = line.range()?;
                 let told = line.told(range)?;
@@ -75,7 +92,7 @@ impl Draft {
 
     /// The quarter, where the text has so many lines.
     pub(crate) fn finished(self, lines: usize) -> Result<TextQuarter, TextFault>
-        ensures { result ≡ finished lines self.named self.zone_net self.avoided }
+        ensures { result ≡ finished lines self.named self.others self.zone_net self.avoided }
     {
         let missing = |part| TextFault {
             line: lines,
@@ -90,6 +107,7 @@ impl Draft {
         Ok(TextQuarter {
             zone_net,
             avoided,
+            others: self.others.unwrap_or(Row::idle_slot()),
             named,
         })
     }

@@ -17,6 +17,7 @@ pub enum Part {
     Demand,
     UpPrice,
     DownPrice,
+    Unreported,
     End,
 }
 
@@ -35,6 +36,8 @@ pub enum Problem {
     BackwardRange,
     /// A slot that a line before it names.
     NamedTwice { slot: usize },
+    /// A line before it is of the other slots too.
+    OthersTwice,
     /// The energy over these slots is no whole number of kW.
     NotWholeKw,
 }

@@ -2,7 +2,7 @@
 ghost use Rattle.std.specs.Prelude.{◌≡◌, ◌<◌, ◌≤◌, IfOk, Ok};
 ghost use Rattle.units.specs.Chains.{result_and_then};
 ghost use Rattle.units.specs.Quantities.{demand_of};
-ghost use Rattle.quarter_text.specs.Lines.{avoided_line, end_at, is_word, keyword, number_at, price_at, prices_after, quantity_at, range_line, told_by, word_at, zone_net_line};
+ghost use Rattle.quarter_text.specs.Lines.{avoided_line, end_at, is_of_others, is_word, keyword, number_at, others_line, price_at, prices_after, quantity_at, range_line, told_by, word_at, zone_net_line};
 ghost use Rattle.quarter_text.specs.Steps.{bytes_read, capped, read_number, words_in};
 ghost use Rattle.quarter_text.specs.declared.fault.Part.TheVariants as part;
 
@@ -88,6 +88,22 @@ impl<'a> Line<'a> {
         let avoided = self.price(1, Part::AvoidedValue)?;
         self.end(2)?;
         Ok(avoided)
+    }
+
+    /// Whether the line is of the slots that no line names.
+    pub(crate) fn is_of_others(&self) -> bool
+        ensures { result ≡ is_of_others (words_in self.now) }
+    {
+        self.has(0, b"others")
+    }
+
+    /// What the line of those slots says of each of them.
+    pub(crate) fn others(&self) -> Result<Slot, WordFault>
+        ensures { result ≡ others_line (words_in self.now) }
+    {
+        self.keyword(1, Part::Unreported, b"unreported")?;
+        self.end(2)?;
+        Ok(None)
     }
 
     /// The slots that a line names.

@@ -35,6 +35,7 @@ impl fmt::Display for Part {
                 f,
                 "the down price in euros, with two decimals at most, or -"
             ),
+            Part::Unreported => write!(f, "`unreported`"),
             Part::End => write!(f, "the end of the line"),
         }
     }
@@ -97,6 +98,7 @@ impl fmt::Display for Message<'_> {
             Problem::NoSuchSlot => write!(f, " is out of bounds: slots are from 0 to 227"),
             Problem::BackwardRange => write!(f, " ends before it begins"),
             Problem::NamedTwice { slot } => write!(f, " names slot {slot} again"),
+            Problem::OthersTwice => write!(f, " names the other slots again"),
             Problem::NotWholeKw => write!(f, " MWh over these slots is no whole number of kW"),
         }
     }

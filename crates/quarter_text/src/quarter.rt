@@ -1,14 +1,15 @@
 // A quarter that a text tells, as a price source.
 ghost use Rattle.std.specs.Prelude.{◌≡◌};
 
-use source::{NoSuchSlot, PriceSource, Row, SLOTS, Slot};
+use source::{NoSuchSlot, PriceSource, SLOTS, Slot};
 use units::{Price, ZoneNet};
 
-/// The zone net, the avoided value, and each slot that the text names.
+/// The zone net, the avoided value, what is told of the slots that the text does not name, and each slot that it does.
 #[derive(Clone, Copy)]
 pub struct TextQuarter {
     pub(crate) zone_net: ZoneNet,
     pub(crate) avoided: Option<Price>,
+    pub(crate) others: Slot,
     pub(crate) named: [Option<Slot>; SLOTS],
 }
 
@@ -19,7 +20,7 @@ impl PriceSource for TextQuarter {
 
     fn slot(&self, slot: usize) -> Result<Slot, NoSuchSlot> {
         match self.named.get(slot) {
-            Some(named) => Ok(named.unwrap_or(Row::idle_slot())),
+            Some(named) => Ok(named.unwrap_or(self.others)),
             None => Err(NoSuchSlot { slot }),
         }
     }
