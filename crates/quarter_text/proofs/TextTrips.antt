@@ -1,5 +1,5 @@
 -- A printed text is read back as the source that was printed.
-use Rattle.std.proofs.Common.{◌≡◌, ℕ, zero, suc, ◌+◌, ◌-◌, ◌<◌, ◌≤◌, true, false, if◌then◌else◌, List, [], ◌∷◌, ◌++◌, length, replicate, get_or, Some, None, Ok, Option, Result, sym, refl, ap, ◌∙◌, subst, append-nil, append_assoc, codes, inl, inr, ⊎_elim, arith}
+use Rattle.std.proofs.Common.{◌≡◌, ℕ, zero, suc, ◌+◌, ◌-◌, ◌<◌, ◌≤◌, Bool, true, false, nat_lt, if◌then◌else◌, List, [], ◌∷◌, ◌++◌, length, replicate, get_or, Some, None, Ok, Option, Result, sym, refl, ap, ◌∙◌, subst, append-nil, append_assoc, codes, inl, inr, ⊎_elim, arith}
 use Rattle.std.proofs.lemmas.Bool.{cases_Bool, cases_lt, and_from}
 use Rattle.std.specs.Fmt.{signed_decimal}
 use Rattle.std.specs.Option.{unwrap_or}
@@ -17,7 +17,7 @@ use Rattle.quarter_text.specs.Drafts.{blank, finished, with_line, with_lines, wi
 use Rattle.quarter_text.specs.Ranges.{slots_from_to}
 use Rattle.source.specs.Tables.{idle}
 use Rattle.quarter_text.specs.Quarters.{meaning_of}
-use Rattle.quarter_text.specs.Texts.{ends_run, head_text, lines_to, price_text, run_start, run_text, same_slot, slots_text, text_of, told_text}
+use Rattle.quarter_text.specs.Texts.{ends_run, head_text, lines_to, others_text, price_text, run_start, run_text, runs_to, same_slot, slots_text, text_of, text_with, told_text}
 use Rattle.quarter_text.specs.Trips.{ReadsBack, SameSheetThroughText}
 use Rattle.quarter_text.specs.Words.{lines_of, words_of}
 use Rattle.quarter_text.specs.declared.draft.AvoidedValue.TheVariants.{NotYetSaid, Said}
@@ -51,19 +51,44 @@ leads_line l d e p h n u =
 abbrev netted : ZoneNet → Draft
 netted z = record { zone_net = Some z; avoided = NotYetSaid; others = None; named = replicate SLOTS None }
 
-abbrev headed : ZoneNet → Option Price → Draft
-headed z v = record { zone_net = Some z; avoided = Said v; others = None; named = replicate SLOTS None }
+-- what the slots without a line are, by whether a line says that they are unreported
+abbrev others_if : Bool → Slot
+others_if t = if t then None else idle
 
-head_leads : (z : ZoneNet) (v : Option Price) → Leads (head_text z.kw v) blank (headed z v)
+abbrev said_if : Bool → Option Slot
+said_if t = if t then Some None else None
+
+others_again : (t : Bool) → unwrap_or (said_if t) idle ≡ others_if t
+others_again true = refl
+others_again false = refl
+
+abbrev headed : ZoneNet → Option Price → Bool → Draft
+headed z v t = record { zone_net = Some z; avoided = Said v; others = said_if t; named = replicate SLOTS None }
+
+others_leads : (z : ZoneNet) (v : Option Price) (t : Bool) → Leads (others_text (others_if t)) (headed z v false) (headed z v t)
+others_leads z v true = leads_line (codes "others unreported") (headed z v false) (headed z v true) refl refl
+others_leads z v false = leads_on (headed z v false)
+
+abbrev net_line : ZoneNet → List ℕ
+net_line z = (codes "net " ++ signed_decimal z.kw) ++ (10 ∷ [])
+
+abbrev avoided_line : Option Price → List ℕ
+avoided_line v = (codes "avoided " ++ price_text v) ++ (10 ∷ [])
+
+head_joined : (z : ZoneNet) (v : Option Price) (o : Slot) → (net_line z ++ avoided_line v) ++ others_text o ≡ head_text z.kw v o
 unfolding head_text
-head_leads z v =
+head_joined z v o =
+    append_assoc (net_line z) (avoided_line v) (others_text o)
+    ∙ append_assoc (codes "net " ++ signed_decimal z.kw) (10 ∷ []) (avoided_line v ++ others_text o)
+    ∙ append_assoc (codes "net ") (signed_decimal z.kw) (10 ∷ (avoided_line v ++ others_text o))
+    ∙ ap (λ t. codes "net " ++ (signed_decimal z.kw ++ (10 ∷ t))) (append_assoc (codes "avoided " ++ price_text v) (10 ∷ []) (others_text o) ∙ append_assoc (codes "avoided ") (price_text v) (10 ∷ others_text o))
+
+head_leads : (z : ZoneNet) (v : Option Price) (t : Bool) → Leads (head_text z.kw v (others_if t)) blank (headed z v t)
+head_leads z v t =
     let net = leads_line (codes "net " ++ signed_decimal z.kw) blank (netted z) (head_inline z v).0 (rw (net_words z, net_there z) refl) in
-    let value = leads_line (codes "avoided " ++ price_text v) (netted z) (headed z v) (head_inline z v).1 (rw (avoided_words v, avoided_there v) refl) in
-    let whole : ((codes "net " ++ signed_decimal z.kw) ++ (10 ∷ [])) ++ ((codes "avoided " ++ price_text v) ++ (10 ∷ [])) ≡ codes "net " ++ (signed_decimal z.kw ++ (10 ∷ (codes "avoided " ++ (price_text v ++ (10 ∷ []))))) =
-    append_assoc (codes "net " ++ signed_decimal z.kw) (10 ∷ []) ((codes "avoided " ++ price_text v) ++ (10 ∷ []))
-    ∙ append_assoc (codes "net ") (signed_decimal z.kw) (10 ∷ ((codes "avoided " ++ price_text v) ++ (10 ∷ [])))
-    ∙ ap (λ t. codes "net " ++ (signed_decimal z.kw ++ (10 ∷ t))) (append_assoc (codes "avoided ") (price_text v) (10 ∷ [])) in
-    subst (λ t. Leads t blank (headed z v)) whole (leads_both ((codes "net " ++ signed_decimal z.kw) ++ (10 ∷ [])) ((codes "avoided " ++ price_text v) ++ (10 ∷ [])) blank (netted z) (headed z v) net value)
+    let value = leads_line (codes "avoided " ++ price_text v) (netted z) (headed z v false) (head_inline z v).1 (rw (avoided_words v, avoided_there v) refl) in
+    let both = leads_both (net_line z) (avoided_line v) blank (netted z) (headed z v false) net value in
+    subst (λ x. Leads x blank (headed z v t)) (head_joined z v (others_if t)) (leads_both (net_line z ++ avoided_line v) (others_text (others_if t)) blank (headed z v false) (headed z v t) both (others_leads z v t))
 
 -- THE SLOTS
 
@@ -72,34 +97,34 @@ all_same zero i x = refl
 all_same (suc n) zero x = refl
 all_same (suc n) (suc i) x = all_same n i x
 
--- what is named of a slot: nothing, where it is idle
-abbrev told_of : Slot → Option Slot
-told_of s = if same_slot s idle then None else Some s
+-- what is named of a slot: nothing, where it is as the others
+abbrev told_of : Slot → Slot → Option Slot
+told_of o s = if same_slot s o then None else Some s
 
 -- the first j slots are named
-record Marked (m : ℕ → Slot) (j : ℕ) (l : List (Option Slot)) : Type 0 where
+record Marked (o : Slot) (m : ℕ → Slot) (j : ℕ) (l : List (Option Slot)) : Type 0 where
   long : length l ≡ SLOTS
-  before : (i : ℕ) → i < j → get_or l i None ≡ told_of (m i)
+  before : (i : ℕ) → i < j → get_or l i None ≡ told_of o (m i)
   after : (i : ℕ) → j ≤ i → get_or l i None ≡ None
 
 -- the line of a run names its slots
-run_leads : (z : ZoneNet) (v : Option Price) (a b : ℕ) (s : Slot) (l : List (Option Slot)) → OneLine a b → (k : Named l a (b + 1 - a) s) → Leads (run_text a b s) (with_slots (headed z v) l) (with_slots (headed z v) k.named)
-run_leads z v a b s l o k =
+run_leads : (z : ZoneNet) (v : Option Price) (t : Bool) (a b : ℕ) (s : Slot) (l : List (Option Slot)) → OneLine a b → (k : Named l a (b + 1 - a) s) → Leads (run_text a b s) (with_slots (headed z v t) l) (with_slots (headed z v t) k.named)
+run_leads z v t a b s l o k =
     let r = slots_read a b o in
     let words : words_of (slots_text a b ++ (32 ∷ told_text s)) ≡ slots_text a b ∷ told_words s = word_first (slots_text a b) (told_text s) r.word ∙ ap (λ w. slots_text a b ∷ w) (told_split s) in
-    let line = leads_line (slots_text a b ++ (32 ∷ told_text s)) (with_slots (headed z v) l) (with_slots (headed z v) k.named)
+    let line = leads_line (slots_text a b ++ (32 ∷ told_text s)) (with_slots (headed z v t) l) (with_slots (headed z v t) k.named)
     (inline_joined (slots_text a b) (32 ∷ told_text s) (inline_word (slots_text a b) r.word.bytes) (and_from true (inline (told_text s)) refl (told_inline s)))
     (rw (words, r.no_others, r.range (told_words s), told_there (slots_text a b) s (slots_from_to a b), k.is) refl) in
-    subst (λ t. Leads t (with_slots (headed z v) l) (with_slots (headed z v) k.named)) (append_assoc (slots_text a b) (32 ∷ told_text s) (10 ∷ [])) line
+    subst (λ x. Leads x (with_slots (headed z v t) l) (with_slots (headed z v t) k.named)) (append_assoc (slots_text a b) (32 ∷ told_text s) (10 ∷ [])) line
 
 -- after the first k slots
-record Stood (m : ℕ → Slot) (z : ZoneNet) (v : Option Price) (k : ℕ) : Type 0 where
+record Stood (m : ℕ → Slot) (z : ZoneNet) (v : Option Price) (w : Bool) (k : ℕ) : Type 0 where
   named : List (Option Slot)
-  marked : Marked m (run_start m k) named
-  leads : Leads (lines_to m k) (headed z v) (with_slots (headed z v) named)
+  marked : Marked (others_if w) m (run_start m k) named
+  leads : Leads (lines_to (others_if w) m k) (headed z v w) (with_slots (headed z v w) named)
 
-module _ (m : ℕ → Slot) (z : ZoneNet) (v : Option Price) where
-  stood_first : Stood m z v 0
+module _ (m : ℕ → Slot) (z : ZoneNet) (v : Option Price) (w : Bool) where
+  stood_first : Stood m z v w 0
   unfolding lines_to
   stood_first = record {
     named = replicate SLOTS None;
@@ -108,36 +133,36 @@ module _ (m : ℕ → Slot) (z : ZoneNet) (v : Option Price) where
       before = λ i l. absurd (omega (arith, l, start_first m));
       after = λ i l. all_same SLOTS i None;
     };
-    leads = leads_on (headed z v);
+    leads = leads_on (headed z v w);
   }
 
   -- the run goes on
-  stood_on : (k : ℕ) → ends_run m k ≡ false → Stood m z v k → Stood m z v (suc k)
+  stood_on : (k : ℕ) → ends_run m k ≡ false → Stood m z v w k → Stood m z v w (suc k)
   unfolding lines_to
   stood_on k e s = record {
     named = s.named;
-    marked = subst (λ j. Marked m j s.named) (sym (start_stays m k e)) s.marked;
-    leads = rw e (subst (λ t. Leads t (headed z v) (with_slots (headed z v) s.named)) (sym (append-nil (lines_to m k))) s.leads);
+    marked = subst (λ j. Marked (others_if w) m j s.named) (sym (start_stays m k e)) s.marked;
+    leads = rw e (subst (λ x. Leads x (headed z v w) (with_slots (headed z v w) s.named)) (sym (append-nil (lines_to (others_if w) m k))) s.leads);
   }
 
-  -- an idle run ends
-  stood_idle : (k : ℕ) → ends_run m k ≡ true → same_slot (m k) idle ≡ true → Stood m z v k → Stood m z v (suc k)
+  -- a run ends that is as the others
+  stood_idle : (k : ℕ) → ends_run m k ≡ true → same_slot (m k) (others_if w) ≡ true → Stood m z v w k → Stood m z v w (suc k)
   unfolding lines_to
   stood_idle k e t s = record {
     named = s.named;
-    marked = subst (λ j. Marked m j s.named) (sym (start_next m k e)) (record {
+    marked = subst (λ j. Marked (others_if w) m j s.named) (sym (start_next m k e)) (record {
       long = s.marked.long;
       before = λ i l. ⊎_elim
           (λ (x : i < run_start m k). s.marked.before i x)
-          (λ (x : run_start m k ≤ i). s.marked.after i x ∙ sym (ap told_of (in_run m k i x (omega (arith, l))) ∙ rw t refl))
+          (λ (x : run_start m k ≤ i). s.marked.after i x ∙ sym (ap (told_of (others_if w)) (in_run m k i x (omega (arith, l))) ∙ rw t refl))
           (cases_lt i (run_start m k));
       after = λ i l. s.marked.after i (omega (arith, l, start_low m k));
     });
-    leads = rw (e, t) (subst (λ w. Leads w (headed z v) (with_slots (headed z v) s.named)) (sym (append-nil (lines_to m k))) s.leads);
+    leads = rw (e, t) (subst (λ x. Leads x (headed z v w) (with_slots (headed z v w) s.named)) (sym (append-nil (lines_to (others_if w) m k))) s.leads);
   }
 
   -- a run ends that has a line
-  stood_named : (k : ℕ) → k < SLOTS → ends_run m k ≡ true → same_slot (m k) idle ≡ false → Stood m z v k → Stood m z v (suc k)
+  stood_named : (k : ℕ) → k < SLOTS → ends_run m k ≡ true → same_slot (m k) (others_if w) ≡ false → Stood m z v w k → Stood m z v w (suc k)
   unfolding lines_to
   stood_named k b e t s =
       let a : ℕ = run_start m k in
@@ -145,27 +170,27 @@ module _ (m : ℕ → Slot) (z : ZoneNet) (v : Option Price) where
       let n = named_run s.named a (k + 1 - a) (m k) (omega (arith, b, low, s.marked.long)) (λ i x y. s.marked.after i x) in
       record {
         named = n.named;
-        marked = subst (λ j. Marked m j n.named) (sym (start_next m k e)) (record {
+        marked = subst (λ j. Marked (others_if w) m j n.named) (sym (start_next m k e)) (record {
           long = n.long ∙ s.marked.long;
           before = λ i l. ⊎_elim
               (λ (x : i < a). n.outside i (inl x) ∙ s.marked.before i x)
-              (λ (x : a ≤ i). n.inside i x (omega (arith, l, low)) ∙ sym (ap told_of (in_run m k i x (omega (arith, l))) ∙ rw t refl))
+              (λ (x : a ≤ i). n.inside i x (omega (arith, l, low)) ∙ sym (ap (told_of (others_if w)) (in_run m k i x (omega (arith, l))) ∙ rw t refl))
               (cases_lt i a);
           after = λ i l. n.outside i (inr (omega (arith, l, low))) ∙ s.marked.after i (omega (arith, l, low));
         });
-        leads = rw (e, t) (leads_both (lines_to m k) (run_text a k (m k)) (headed z v) (with_slots (headed z v) s.named) (with_slots (headed z v) n.named) s.leads (run_leads z v a k (m k) s.named (one_line m k b) n));
+        leads = rw (e, t) (leads_both (lines_to (others_if w) m k) (run_text a k (m k)) (headed z v w) (with_slots (headed z v w) s.named) (with_slots (headed z v w) n.named) s.leads (run_leads z v w a k (m k) s.named (one_line m k b) n));
       }
 
-  stood_next : (k : ℕ) → k < SLOTS → Stood m z v k → Stood m z v (suc k)
+  stood_next : (k : ℕ) → k < SLOTS → Stood m z v w k → Stood m z v w (suc k)
   stood_next k b s = ⊎_elim
       (λ (e : ends_run m k ≡ true). ⊎_elim
-      (λ (t : same_slot (m k) idle ≡ true). stood_idle k e t s)
-      (λ (t : same_slot (m k) idle ≡ false). stood_named k b e t s)
-      (cases_Bool (same_slot (m k) idle)))
+      (λ (t : same_slot (m k) (others_if w) ≡ true). stood_idle k e t s)
+      (λ (t : same_slot (m k) (others_if w) ≡ false). stood_named k b e t s)
+      (cases_Bool (same_slot (m k) (others_if w))))
       (λ (e : ends_run m k ≡ false). stood_on k e s)
       (cases_Bool (ends_run m k))
 
-  stood : (k : ℕ) → k ≤ SLOTS → Stood m z v k
+  stood : (k : ℕ) → k ≤ SLOTS → Stood m z v w k
   stood zero b = stood_first
   stood (suc k) b = stood_next k (omega (arith, b)) (stood k (omega (arith, b)))
 
@@ -175,25 +200,27 @@ last_ends : (m : ℕ → Slot) → run_start m SLOTS ≡ SLOTS
 unfolding run_start ends_run
 last_ends m = refl
 
-told_again : (s : Slot) → unwrap_or (told_of s) idle ≡ s
-told_again s = ⊎_elim
-    (λ (t : same_slot s idle ≡ true). rw t (sym (slot_is s idle t)))
-    (λ (t : same_slot s idle ≡ false). rw t refl)
-    (cases_Bool (same_slot s idle))
+told_again : (o s : Slot) → unwrap_or (told_of o s) o ≡ s
+told_again o s = ⊎_elim
+    (λ (t : same_slot s o ≡ true). rw t (sym (slot_is s o t)))
+    (λ (t : same_slot s o ≡ false). rw t refl)
+    (cases_Bool (same_slot s o))
 
 pub reads_back : (m : Meaning) → ReadsBack m
 unfolding text_of
 reads_back m =
-    let s = stood m.slots m.zone m.avoided SLOTS (omega arith) in
-    let q : TextQuarter = record { zone_net = m.zone; avoided = m.avoided; others = idle; named = s.named } in
-    let leads = leads_both (head_text m.zone.kw m.avoided) (lines_to m.slots SLOTS) blank (headed m.zone m.avoided) (with_slots (headed m.zone m.avoided) s.named) (head_leads m.zone m.avoided) s.leads in
-    let text : List ℕ = head_text m.zone.kw m.avoided ++ lines_to m.slots SLOTS in
-    let read : with_lines 0 blank (lines_of text) ≡ Ok (with_slots (headed m.zone m.avoided) s.named) = ap (λ t. with_lines 0 blank (lines_of t)) (sym (append-nil text)) ∙ (leads 0 []).1 in
+    let t : Bool = nat_lt (runs_to m.slots idle SLOTS + 1) (runs_to m.slots None SLOTS) in
+    let o : Slot = others_if t in
+    let s = stood m.slots m.zone m.avoided t SLOTS (omega arith) in
+    let q : TextQuarter = record { zone_net = m.zone; avoided = m.avoided; others = unwrap_or (said_if t) idle; named = s.named } in
+    let leads = leads_both (head_text m.zone.kw m.avoided o) (lines_to o m.slots SLOTS) blank (headed m.zone m.avoided t) (with_slots (headed m.zone m.avoided t) s.named) (head_leads m.zone m.avoided t) s.leads in
+    let text : List ℕ = text_with o m in
+    let read : with_lines 0 blank (lines_of text) ≡ Ok (with_slots (headed m.zone m.avoided t) s.named) = ap (λ x. with_lines 0 blank (lines_of x)) (sym (append-nil text)) ∙ (leads 0 []).1 in
     record {
       quarter = q;
       read = ap (λ r. result_and_then r (λ d. finished (length (lines_of text)) d.named d.others d.zone_net d.avoided)) read;
       alike = record {
-        slots = λ k l. ap (λ o. unwrap_or o idle) (s.marked.before k (omega (arith, l, last_ends m.slots))) ∙ told_again (m.slots k);
+        slots = λ k l. ap (λ x. unwrap_or (get_or s.named k None) x) (others_again t) ∙ ap (λ x. unwrap_or x o) (s.marked.before k (omega (arith, l, last_ends m.slots))) ∙ told_again o (m.slots k);
         zones = refl;
         values = refl;
       };

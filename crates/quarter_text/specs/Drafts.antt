@@ -40,7 +40,7 @@ with_range d ws r =
     (λ told. result_and_then (name_slots d.named r.first (r.last + 1 - r.first) told)
     (λ named. Ok (with_slots d named)))
 
--- a draft after a line that says this of the slots that no line names, which one line may say
+-- a draft after a line that says what the slots are that no line names, which no line before it said
 abbrev pub with_others : Draft → Slot → ReadOrFault Draft
 with_others d s =
     if is_some d.others then at_word 0 OthersTwice
@@ -70,7 +70,7 @@ abbrev pub with_lines : ℕ → Draft → List (List ℕ) → Result Draft TextF
 with_lines n d [] = Ok d
 with_lines n d (l ∷ ls) = result_and_then (in_line n (with_line d (words_of l))) (λ e. with_lines (n + 1) e ls)
 
--- what n lines tell, or the part of the head that they leave out; slots that no line names are idle, unless a line says what they are
+-- what n lines tell, or the part of the head that they leave out; slots that no line names are idle where no line says what they are
 abbrev pub finished : ℕ → List (Option Slot) → Option Slot → Option ZoneNet → AvoidedValue → Result TextQuarter TextFault
 finished n named others None v = in_line n (at_word 0 (Missing part.Net))
 finished n named others (Some z) NotYetSaid = in_line n (at_word 0 (Missing part.Avoided))

@@ -1,5 +1,5 @@
 -- The text of what a source means.
-use Rattle.std.specs.Prelude.{ℕ, zero, suc, ◌+◌, Bool, true, false, not, ◌&&◌, ◌||◌, List, [], ◌∷◌, ◌++◌, ℤ, Some, None, Ok, Err, Option, Result, ◌==◌, nat_le, decimal, codes, if◌then◌else◌}
+use Rattle.std.specs.Prelude.{ℕ, zero, suc, ◌+◌, Bool, true, false, not, ◌&&◌, ◌||◌, List, [], ◌∷◌, ◌++◌, ℤ, Some, None, Ok, Err, Option, Result, ◌==◌, nat_le, nat_lt, decimal, codes, if◌then◌else◌}
 use Rattle.std.specs.Fmt.{signed_decimal}
 use Rattle.std.specs.Ordering.{int_eq}
 use Rattle.source.specs.Meanings.{Meaning}
@@ -67,23 +67,41 @@ unfoldable pub run_start : (ℕ → Slot) → ℕ → ℕ
 run_start m zero = 0
 run_start m (suc k) = if ends_run m k then suc k else run_start m k
 
--- the line of the slots from a to b, of which the same is told; idle slots have none
-abbrev pub shown_run : ℕ → ℕ → Slot → List ℕ
-shown_run a b s = if same_slot s idle then [] else run_text a b s
+-- how many runs of slots of which s is told end among the first n slots
+unfoldable pub runs_to : (ℕ → Slot) → Slot → ℕ → ℕ
+runs_to m s zero = 0
+runs_to m s (suc k) = if ends_run m k && same_slot (m k) s then runs_to m s k + 1 else runs_to m s k
+
+-- what the slots that have no line are: unreported where that makes fewer lines, with the one that says so; else idle
+abbrev pub others_of : (ℕ → Slot) → Slot
+others_of m = if nat_lt (runs_to m idle SLOTS + 1) (runs_to m None SLOTS) then None else idle
+
+-- the line that says that the slots that have no line are unreported; idle ones are not spoken of
+abbrev pub others_text : Slot → List ℕ
+others_text None = codes "others unreported" ++ (line_end ∷ [])
+others_text (Some r) = []
+
+-- the lines before those of slots: the zone net, the avoided value, and what the others are
+unfoldable pub head_text : ℤ → Option Price → Slot → List ℕ
+head_text net avoided others = codes "net " ++ (signed_decimal net ++ (line_end ∷ (codes "avoided " ++ (price_text avoided ++ (line_end ∷ others_text others)))))
+
+-- the line of the slots from a to b, of which the same is told; they have none where the others are the same
+abbrev pub shown_run : Slot → ℕ → ℕ → Slot → List ℕ
+shown_run others a b s = if same_slot s others then [] else run_text a b s
 
 -- the line of the run that ends at k, if one does
-abbrev pub line_of : (ℕ → Slot) → ℕ → List ℕ
-line_of m k = if ends_run m k then shown_run (run_start m k) k (m k) else []
+abbrev pub line_of : Slot → (ℕ → Slot) → ℕ → List ℕ
+line_of others m k = if ends_run m k then shown_run others (run_start m k) k (m k) else []
 
 -- the lines of the first n slots
-unfoldable pub lines_to : (ℕ → Slot) → ℕ → List ℕ
-lines_to m zero = []
-lines_to m (suc k) = lines_to m k ++ line_of m k
+unfoldable pub lines_to : Slot → (ℕ → Slot) → ℕ → List ℕ
+lines_to others m zero = []
+lines_to others m (suc k) = lines_to others m k ++ line_of others m k
 
--- the lines of the zone net and the avoided value
-unfoldable pub head_text : ℤ → Option Price → List ℕ
-head_text net avoided = codes "net " ++ (signed_decimal net ++ (line_end ∷ (codes "avoided " ++ (price_text avoided ++ (line_end ∷ [])))))
+-- the text of what a source means, in which the slots that have no line are these
+abbrev pub text_with : Slot → Meaning → List ℕ
+text_with others m = head_text m.zone.kw m.avoided others ++ lines_to others m.slots SLOTS
 
--- the text of what a source means: the zone net, the avoided value, and the slots that are not idle
+-- the text of what a source means: the zone net, the avoided value, and the slots that are not as the others are
 unfoldable pub text_of : Meaning → List ℕ
-text_of m = head_text m.zone.kw m.avoided ++ lines_to m.slots SLOTS
+text_of m = text_with (others_of m.slots) m

@@ -17,11 +17,12 @@ pub(crate) enum AvoidedValue {
     Said(Option<Price>),
 }
 
-/// What the lines so far tell; a slot that none of them names is nothing yet, nor is what the others are.
+/// What the lines so far tell; a slot that none of them names is nothing yet.
 #[derive(Clone, Copy)]
 pub(crate) struct Draft {
     zone_net: Option<ZoneNet>,
     avoided: AvoidedValue,
+    /// What a line says of the slots that no line names, if one does.
     others: Option<Slot>,
     named: [Option<Slot>; SLOTS],
 }

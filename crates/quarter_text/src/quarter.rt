@@ -4,11 +4,12 @@ ghost use Rattle.std.specs.Prelude.{◌≡◌};
 use source::{NoSuchSlot, PriceSource, SLOTS, Slot};
 use units::{Price, ZoneNet};
 
-/// The zone net, the avoided value, what is told of the slots that the text does not name, and each slot that it does.
+/// The zone net, the avoided value, and each slot that the text names.
 #[derive(Clone, Copy)]
 pub struct TextQuarter {
     pub(crate) zone_net: ZoneNet,
     pub(crate) avoided: Option<Price>,
+    /// What is told of each slot that the text does not name.
     pub(crate) others: Slot,
     pub(crate) named: [Option<Slot>; SLOTS],
 }

@@ -62,6 +62,8 @@ fn of_expected_words(rt: HostRuntime) -> Result<(), Fail> {
             "its end stands in place of the down price in euros, with two decimals at most, or -",
         ),
         ("7 5 - - -", "`-` is a word too many"),
+        ("others 5 - -", "`5` stands in place of `unreported`"),
+        ("others", "its end stands in place of `unreported`"),
     ];
     for (line, message) in cases {
         let text = with_head(rt.alloc(), line)?;
@@ -91,6 +93,10 @@ fn of_other_problems(rt: HostRuntime) -> Result<(), Fail> {
         ),
         ("74-0 5 - -", "`74-0` ends before it begins"),
         ("up 0 - -\n226 0 - -", "`226` names slot 226 again"),
+        (
+            "others unreported\nothers unreported",
+            "`others` names the other slots again",
+        ),
         (
             "0-6 0.001 MWh - -",
             "`0.001` MWh over these slots is no whole number of kW",

@@ -65,6 +65,54 @@ fn runs(rt: HostRuntime) -> Result<(), Fail> {
     Ok(())
 }
 
+// Unreported slots have no line where that saves more than the line that says so, and those for idle slots.
+#[test]
+fn others(rt: HostRuntime) -> Result<(), Fail> {
+    let cases = [
+        ("others unreported\n", "others unreported\n"),
+        (
+            "others unreported\n0-9 5 1 -\n",
+            "others unreported\n0-9 5 1.00 -\n",
+        ),
+        (
+            "others unreported\n0-9 5 - -\n10-11 0 - -\n",
+            "others unreported\n0-9 5 - -\n10-11 0 - -\n",
+        ),
+        (
+            "others unreported\n0-9 0 - -\ndown 0 - -\n",
+            "10-224 unreported\nscheduled unreported\nup unreported\n",
+        ),
+        (
+            "others unreported\nscheduled 0 - -\nup 1 - -\ndown 1 - -\n",
+            "0-224 unreported\nup 1 - -\ndown 1 - -\n",
+        ),
+        (
+            "others unreported\n225-227 1 - -\n",
+            "0-224 unreported\nscheduled 1 - -\nup 1 - -\ndown 1 - -\n",
+        ),
+        (
+            "others unreported\n226-227 1 - -\n",
+            "others unreported\nup 1 - -\ndown 1 - -\n",
+        ),
+        (
+            "others unreported\n226-227 0 - -\n7 1 - -\n",
+            "0-6 unreported\n7 1 - -\n8-224 unreported\nscheduled unreported\n",
+        ),
+        ("others unreported\n0-227 0 - -\n", ""),
+    ];
+    for (lines, again) in cases {
+        let text = with_head(rt.alloc(), lines)?;
+        let shown = printed(rt.alloc(), text.as_bytes())?;
+        let wanted = with_head(rt.alloc(), again)?;
+        assert_eq!(rt; shown.as_str(), wanted.as_str());
+        assert_eq!(rt;
+            printed(rt.alloc(), wanted.as_bytes())?.as_str(),
+            wanted.as_str()
+        );
+    }
+    Ok(())
+}
+
 // Nothing is reported of a table of no rows.
 #[test]
 fn nothing_reported(rt: HostRuntime) -> Result<(), Fail> {
@@ -74,10 +122,7 @@ fn nothing_reported(rt: HostRuntime) -> Result<(), Fail> {
         avoided: None,
     };
     let text = quarter_text(rt.alloc(), &table)?;
-    assert_eq!(rt;
-        text.as_str(),
-        "net 0\navoided -\n0-224 unreported\nscheduled unreported\nup unreported\ndown unreported\n"
-    );
+    assert_eq!(rt; text.as_str(), "net 0\navoided -\nothers unreported\n");
     Ok(())
 }
 

@@ -26,6 +26,39 @@ fn energy(rt: HostRuntime) -> Result<(), Fail> {
     Ok(())
 }
 
+// What no line names is idle, or unreported where a line says so, wherever it stands.
+#[test]
+fn slots_not_named(rt: HostRuntime) -> Result<(), Fail> {
+    let heap = rt.alloc();
+    let idle = sheet_of(heap, with_head(heap, "0-9 5 1 -\n10-227 0 - -")?.as_bytes())?;
+    let unreported = sheet_of(
+        heap,
+        with_head(heap, "0-9 5 1 -\n10-227 unreported")?.as_bytes(),
+    )?;
+    let cases = [
+        ("0-9 5 1 -", idle.as_slice()),
+        ("others unreported\n0-9 5 1 -", unreported.as_slice()),
+        ("0-9 5 1 -\nothers unreported", unreported.as_slice()),
+        (
+            "0-4 5 1 -\n\tothers  unreported # 218\n5-9 5 1 -",
+            unreported.as_slice(),
+        ),
+        (
+            "100-227 unreported\nothers unreported\n0-9 5 1 -",
+            unreported.as_slice(),
+        ),
+        (
+            "10-227 0 - -\nothers unreported\n0-9 5 1 -",
+            idle.as_slice(),
+        ),
+    ];
+    for (lines, wanted) in cases {
+        let sheet = sheet_of(heap, with_head(heap, lines)?.as_bytes())?;
+        assert!(rt; sheet.as_slice() == wanted, "{lines}");
+    }
+    Ok(())
+}
+
 // The same quarter in other layouts.
 #[test]
 fn layouts(rt: HostRuntime) -> Result<(), Fail> {

@@ -1,8 +1,10 @@
 // Where texts are refused, and why.
 use crate::texts::{fault_in, fault_of, stretched};
-use quarter_text::Part::{self, Avoided, AvoidedValue, DownPrice, End, Net, Slots, UpPrice};
+use quarter_text::Part::{
+    self, Avoided, AvoidedValue, DownPrice, End, Net, Slots, Unreported, UpPrice,
+};
 use quarter_text::Problem::{
-    BackwardRange, Bounds, Expected, Missing, NamedTwice, NoSuchSlot, NotWholeKw,
+    BackwardRange, Bounds, Expected, Missing, NamedTwice, NoSuchSlot, NotWholeKw, OthersTwice,
 };
 use std::test::Fail;
 use units::OutOfBounds::{Demand, Price, ZoneNet};
@@ -26,6 +28,8 @@ fn head_lines(rt: HostRuntime) {
         ("net 5\navoided - -", 1, 2, Expected(End)),
         ("net 5\navoided -\navoided -", 2, 0, Expected(Slots)),
         ("net 5\navoided -\nnet 5", 2, 0, Expected(Slots)),
+        ("others unreported\nnet 5", 0, 0, Expected(Net)),
+        ("net 5\nothers unreported", 1, 0, Expected(Avoided)),
     ];
     for (text, line, word, problem) in cases {
         assert_eq!(rt;
@@ -51,6 +55,11 @@ fn number_of_words(rt: HostRuntime) -> Result<(), Fail> {
         ("7 5 MWh - - -", 5, End),
         ("7 5 MWh MWh -", 3, UpPrice),
         ("0 - 74 5 - -", 1, Part::Demand),
+        ("others", 1, Unreported),
+        ("others 5 - -", 1, Unreported),
+        ("others 5 MWh - -", 1, Unreported),
+        ("others Unreported", 1, Unreported),
+        ("others unreported -", 2, End),
     ];
     for (line, word, part) in cases {
         let fault = fault_in(rt.alloc(), line)?;
@@ -116,6 +125,9 @@ fn slot_words(rt: HostRuntime) -> Result<(), Fail> {
         ("Up", Expected(Slots)),
         ("1.0", Expected(Slots)),
         ("+1", Expected(Slots)),
+        ("Others", Expected(Slots)),
+        ("other", Expected(Slots)),
+        ("0-others", Expected(Slots)),
     ];
     for (word, problem) in cases {
         let fault = fault_in(rt.alloc(), format!(in rt.alloc(); "{word} 5 - -")?.as_str())?;
@@ -140,6 +152,43 @@ fn slots_named_twice(rt: HostRuntime) -> Result<(), Fail> {
     for (lines, line, slot) in cases {
         let fault = fault_in(rt.alloc(), lines)?;
         assert_eq!(rt; fault, Some((line, 0, NamedTwice { slot })), "{lines}");
+    }
+    Ok(())
+}
+
+// Whatever stands between, and after what the second line says.
+#[test]
+fn others_twice(rt: HostRuntime) -> Result<(), Fail> {
+    let cases = [
+        ("others unreported\nothers unreported", 3, 0, OthersTwice),
+        (
+            "others unreported\n7 5 - -\n\nothers unreported",
+            5,
+            0,
+            OthersTwice,
+        ),
+        (
+            "others unreported\nothers 5 - -",
+            3,
+            1,
+            Expected(Unreported),
+        ),
+        (
+            "others unreported\nothers unreported -",
+            3,
+            2,
+            Expected(End),
+        ),
+        (
+            "7 5 - -\nothers unreported\n7 unreported",
+            4,
+            0,
+            NamedTwice { slot: 7 },
+        ),
+    ];
+    for (lines, line, word, problem) in cases {
+        let fault = fault_in(rt.alloc(), lines)?;
+        assert_eq!(rt; fault, Some((line, word, problem)), "{lines}");
     }
     Ok(())
 }

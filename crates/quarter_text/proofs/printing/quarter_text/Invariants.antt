@@ -6,4 +6,4 @@ use Rattle.quarter_text.proofs.printing.quarter_text.Given as goal
 abbrev pub invariant-loop-last : goal.invariant-loop-last
 invariant-loop-last g l =
     let m = g.S.PriceSource.means l.source in
-    (string_bytes l.text ≡ head_text m.zone.kw m.avoided ++ lines_to m.slots l.last) × (l.first ≡ run_start m.slots l.last)
+    (string_bytes l.text ≡ head_text m.zone.kw m.avoided l.others ++ lines_to l.others m.slots l.last) × (l.first ≡ run_start m.slots l.last)
