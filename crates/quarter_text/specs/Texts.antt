@@ -85,7 +85,7 @@ others_text (Some r) = []
 unfoldable pub head_text : ℤ → Option Price → Slot → List ℕ
 head_text net avoided others = codes "net " ++ (signed_decimal net ++ (line_end ∷ (codes "avoided " ++ (price_text avoided ++ (line_end ∷ others_text others)))))
 
--- the line of the slots from a to b, of which the same is told; they have none where the others are the same
+-- the line of the slots from a to b, of which the same is told; there is none where the others are the same
 abbrev pub shown_run : Slot → ℕ → ℕ → Slot → List ℕ
 shown_run others a b s = if same_slot s others then [] else run_text a b s
 

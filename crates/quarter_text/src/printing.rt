@@ -128,7 +128,7 @@ fn runs<S: PriceSource>(source: &S, slot: Slot) -> usize
     runs
 }
 
-// What the slots that have no line are, so that there are fewer lines.
+// What the slots that have no line are: whichever makes fewer lines, and idle where neither does.
 fn others<S: PriceSource>(source: &S) -> Slot
     ensures { result ≡ others_of (S.PriceSource.means source.now).slots }
 {
@@ -140,7 +140,7 @@ fn others<S: PriceSource>(source: &S) -> Slot
     }
 }
 
-// The line of slots of which the same is told; they have none where the others are the same.
+// The line of slots of which the same is told; there is none where the others are the same.
 fn put_run(text: &mut String, others: Slot, range: Range, slot: Slot) -> Result<(), AllocError>
     ensures { OnOk result (string_bytes text.new ≡ string_bytes text.old ++ shown_run others range.first range.last slot) }
 {
@@ -151,7 +151,7 @@ fn put_run(text: &mut String, others: Slot, range: Range, slot: Slot) -> Result<
 }
 
 /// The text of a source: its zone net, its avoided value, and the slots that are not idle; or those that are not
-/// unreported, where that leaves fewer lines, after a line that says so. Only want of memory refuses it.
+/// unreported, where that makes fewer lines, after a line that says so. Only want of memory refuses it.
 #[tactic(auto, using(crate::proofs::TextTrips::same_sheet, crate::proofs::Printed::all_printed))]
 pub fn quarter_text<S: PriceSource>(heap: Global, source: &S) -> Result<String, AllocError>
     ensures prints { IfOk result (λ t. string_bytes t ≡ text_of (S.PriceSource.means source.now)) }
