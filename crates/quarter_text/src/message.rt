@@ -24,7 +24,7 @@ impl fmt::Display for Part {
             ),
             Part::Slots => write!(
                 f,
-                "a slot from 0 to 227, a range as 0-74, or scheduled, up or down"
+                "a slot from 0 to 227, a range as 0-74, scheduled, up or down, or others"
             ),
             Part::Demand => write!(
                 f,

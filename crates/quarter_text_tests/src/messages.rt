@@ -47,7 +47,7 @@ fn of_expected_words(rt: HostRuntime) -> Result<(), Fail> {
     let cases = [
         (
             "sched 5 - -",
-            "`sched` stands in place of a slot from 0 to 227, a range as 0-74, or scheduled, up or down",
+            "`sched` stands in place of a slot from 0 to 227, a range as 0-74, scheduled, up or down, or others",
         ),
         (
             "7 5.5 - -",
