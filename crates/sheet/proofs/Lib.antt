@@ -1,3 +1,4 @@
+pub mod Deciding
 pub mod Firsts
 pub mod Handing
 pub mod Leads

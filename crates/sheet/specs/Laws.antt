@@ -1,11 +1,11 @@
--- What holds of the first fault of a sheet, and of the records that are handed out of it.
+-- What holds of the first fault of a sheet, of the records that are handed out of it, and of the bytes that decide it.
 use Rattle.std.specs.Prelude.{◌≡◌, ℕ, ◌+◌, ◌<◌, ◌≤◌, List, [], ◌++◌, length, take, drop, map, flat_map, ◌≢◌, Some, None, Ok, Err, Result, slice_get}
 use Rattle.source.specs.declared.slot.TheConstants.{SLOTS}
 use Rattle.sheet.specs.declared.fault.SheetFault.{SheetFault}
 use Rattle.sheet.specs.declared.head.Head.{Head}
 use Rattle.sheet.specs.Faults.{fault_number, fault_place, fault_slot}
 use Rattle.sheet.specs.Heads.{head_of}
-use Rattle.sheet.specs.Readers.{RecordOrFault, RecordParts, fault_alone, record_bytes}
+use Rattle.sheet.specs.Readers.{RecordOrFault, RecordParts, fault_alone, record_bytes, records_of_sheet}
 use Rattle.sheet.specs.Records.{slot_told}
 use Rattle.sheet.specs.Slots.{spot_at}
 use Rattle.sheet.specs.Sheets.{first_fault, sheet_meaning}
@@ -48,3 +48,9 @@ pub record ByRecords (s : List ℕ) (xs : List RecordOrFault) : Type 0 where
   pub whole : first_fault s ≡ Ok tt → left ≡ []
   -- record k begins where the records before it end
   pub each : (k : ℕ) (r : RecordParts) → slice_get records k ≡ Some r → IsRecord s k (head.end + length (all_bytes (take k records))) r
+
+-- the bytes t decide the sheet s: they have its first fault, tell what it tells, and the same is handed out of them
+pub record Decides (t s : List ℕ) : Type 0 where
+  pub fault : first_fault t ≡ first_fault s
+  pub told : sheet_meaning t ≡ sheet_meaning s
+  pub handed_out : records_of_sheet t ≡ records_of_sheet s
