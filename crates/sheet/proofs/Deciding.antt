@@ -1,8 +1,8 @@
 -- What follows the most bytes of a sheet changes nothing: of the bytes s ++ r, s decides.
 use Rattle.std.proofs.Common.{◌≡◌, ℕ, zero, suc, ◌+◌, ◌*◌, ◌-◌, ◌<◌, ◌≤◌, List, [], ◌∷◌, ◌++◌, length, drop, take, ℤ, Bool, true, false, None, Some, Ok, Err, Result, IfOk, ap, sym, ◌∙◌, refl, arith, length-drop, length-append, take-append-drop}
-use Rattle.std.specs.Prelude.{if◌then◌else◌, ◌==◌}
+use Rattle.std.specs.Prelude.{if◌then◌else◌, ◌==◌, Option, slice_index}
 use Rattle.std.proofs.lemmas.Bool.Decides.{nat_tests}
-use Rattle.std.proofs.lemmas.List.{drop-append-le}
+use Rattle.std.proofs.lemmas.List.{drop-append-le, get_or_append_left}
 use Rattle.units.specs.declared.bounds.OutOfBounds.{OutOfBounds}
 use Rattle.units.specs.declared.demand.Demand.{Demand}
 use Rattle.units.specs.declared.price.Price.{Price}
@@ -12,12 +12,17 @@ use Rattle.source.specs.Slots.{Slot}
 use Rattle.sheet.specs.declared.fault.NumberFault.{NumberFault}
 use Rattle.sheet.specs.declared.fault.RecordFault.{RecordFault}
 use Rattle.sheet.specs.declared.fault.RecordFault.TheVariants as rf
+use Rattle.sheet.specs.declared.fault.SheetFault.{SheetFault}
+use Rattle.sheet.specs.declared.fault.SheetFault.TheVariants as sf
 use Rattle.sheet.specs.declared.fault.Spot.{Spot}
-use Rattle.sheet.specs.declared.length.TheConstants.{NUMBER_BYTES, RECORD_BYTES}
+use Rattle.sheet.specs.declared.length.TheConstants.{AVOIDED_BYTES, HEAD_BYTES, NUMBER_BYTES, RECORD_BYTES}
 use Rattle.sheet.specs.declared.number.GroupsFault.TheVariants as gf
 use Rattle.sheet.specs.Groups.{Groups, groups}
 use Rattle.sheet.specs.Numbers.{Number, ahead, quantity}
 use Rattle.sheet.specs.Records.{demand_and_price, in_record, reported, SlotTold, slot_told, by_lead}
+use Rattle.sheet.specs.Heads.{avoided_at, by_flag, front, head_of, opening, opens}
+use Rattle.sheet.specs.Slots.{slots_told, SlotsTold, slot_and_later, spot_at}
+use Rattle.sheet.specs.Sheets.{nothing_follows}
 use Rattle.sheet.proofs.Places.{judged}
 
 -- y is what x is, and where that is a value it ends at the byte n at the latest
@@ -51,6 +56,10 @@ told_as end n f (Err e) h = refused end n (f e)
 
 renamed : {X E F : Type 0} {end : X → ℕ} {n : ℕ} {x y : Result X E} (f : E → F) → Kept end n x y → Kept end n (result_map_err x f) (result_map_err y f)
 renamed {end = end} {n = n} {x = x} f k = rw k.same (told_as end n f x k.short)
+
+any_end : (x : Result (Unit {0}) SheetFault) → IfOk x (λ v. 0 ≤ 0)
+any_end (Ok v) = omega arith
+any_end (Err e) = tt
 
 -- groups that the bytes do not end in, of no more bytes than a number has
 abbrev Whole : Groups → Type 0
@@ -119,3 +128,68 @@ led_kept p q lead s r h =
 told_kept : (p : Spot) (s r : List ℕ) → RECORD_BYTES ≤ length s → Kept (λ x. x.1) RECORD_BYTES (slot_told p s) (slot_told p (s ++ r))
 told_kept p [] r h = absurd (omega arith)
 told_kept p (lead ∷ s) r h = led_kept p (ahead p 1) lead s r (omega arith)
+
+-- what is told of slot after slot, which ends at the byte n at the latest
+record RowKept (n : ℕ) (x y : SlotsTold) : Type 0 where
+  same : y ≡ x
+  short : IfOk x.1 (λ end. end ≤ n)
+
+row_after : (k n : ℕ) (t : SlotTold) (f g : ℕ → SlotsTold) → IfOk t (λ x. x.1 ≤ RECORD_BYTES) → ((m : ℕ) → m ≤ RECORD_BYTES → RowKept n (f m) (g m))
+    → RowKept n (slot_and_later k t f) (slot_and_later k t g)
+row_after k n (Ok told) f g h next =
+    let rest : RowKept n (f told.1) (g told.1) = next told.1 h in
+    record {
+      same = ap (λ (w : SlotsTold). let v : SlotsTold = (told.0 ∷ w.0, w.1) in v) rest.same;
+      short = rest.short;
+    }
+row_after k n (Err e) f g h next = record { same = refl; short = tt }
+
+-- the record at the place at of s
+here_kept : (s r : List ℕ) (i at : ℕ) → at + RECORD_BYTES ≤ length s → Kept (λ x. x.1) RECORD_BYTES (slot_told (spot_at at i) (drop at s)) (slot_told (spot_at at i) (drop at (s ++ r)))
+here_kept s r i at h =
+    let b : at ≤ length s = omega arith in
+    rw (drop-append-le at s r b) (told_kept (spot_at at i) (drop at s) r (omega (arith, length-drop at s)))
+
+slots_kept : (k n : ℕ) (s r : List ℕ) (i at : ℕ) → at + k * RECORD_BYTES ≤ n → n ≤ length s → RowKept n (slots_told k s i at) (slots_told k (s ++ r) i at)
+unfolding slots_told
+slots_kept zero n s r i at h l = record { same = refl; short = omega arith }
+slots_kept (suc k) n s r i at h l =
+    let t = here_kept s r i at (omega arith) in
+    rw t.same (row_after k n (slot_told (spot_at at i) (drop at s)) (λ m. slots_told k s (i + 1) (at + m)) (λ m. slots_told k (s ++ r) (i + 1) (at + m)) t.short
+    (λ m f. slots_kept k n s r (i + 1) (at + m) (omega arith) l))
+
+-- a byte stands after the last slot
+follows_same : (s r : List ℕ) (at : ℕ) → at < length s → nothing_follows (s ++ r) at ≡ nothing_follows s at
+follows_same s r at h = grind (arith, nat_tests, length-append {A = ℕ})
+
+-- the opening, byte by byte
+opens_same : (at : ℕ) (want s r : List ℕ) → length want ≤ length s → opens at want (s ++ r) ≡ opens at want s
+opens_same at [] s r h = refl
+opens_same at (w ∷ want) [] r h = absurd (omega arith)
+opens_same at (w ∷ want) (b ∷ s) r h = ap (λ (x : Result (Unit {0}) SheetFault). if b == w then x else Err (sf.Opening at)) (opens_same (at + 1) want s r (omega arith))
+
+flag_kept : (s r : List ℕ) (at flag : ℕ) → at + AVOIDED_BYTES ≤ length s → Kept (λ x. x.1) (at + AVOIDED_BYTES) (by_flag s at flag) (by_flag (s ++ r) at flag)
+flag_kept s r at flag h =
+    let end : Option Price × ℕ → ℕ = λ x. x.1 in
+    either (flag == 0) (kept end (at + AVOIDED_BYTES) (None, at + 1) (omega arith))
+    (either (flag == 1) (chain _ _ (renamed sf.Head (quantity_kept price_of front s r (at + 1) (omega arith))) (λ price l. kept end (at + AVOIDED_BYTES) _ (omega arith)))
+    (refused end (at + AVOIDED_BYTES) (sf.Flag at)))
+
+-- the flag at the place at, and the avoided value after it
+avoided_there : (s : List ℕ) (at : ℕ) → at < length s → avoided_at s at ≡ by_flag s at (slice_index s at)
+unfolding avoided_at
+avoided_there s at h = grind (arith, nat_tests)
+
+avoided_kept : (s r : List ℕ) (at : ℕ) → at + AVOIDED_BYTES ≤ length s → Kept (λ x. x.1) (at + AVOIDED_BYTES) (avoided_at s at) (avoided_at (s ++ r) at)
+avoided_kept s r at h =
+    let i : at < length s = omega arith in
+    rw (avoided_there s at i, avoided_there (s ++ r) at (omega (arith, length-append s r)), get_or_append_left s r 0 at i) (flag_kept s r at (slice_index s at) h)
+
+head_kept : (s r : List ℕ) → HEAD_BYTES ≤ length s → Kept (λ h. h.end) HEAD_BYTES (head_of s) (head_of (s ++ r))
+unfolding head_of
+head_kept s r h =
+    let opened : Kept (λ x. 0) 0 (opens 0 opening s) (opens 0 opening (s ++ r)) = record { same = opens_same 0 opening s r (omega arith); short = any_end (opens 0 opening s) } in
+    chain _ _ opened (λ x l.
+    chain _ _ (renamed sf.Head (quantity_kept zone_net_of front s r 4 (omega arith))) (λ net k.
+    chain _ _ (avoided_kept s r net.1 (omega arith)) (λ avoided j.
+    kept (λ x. x.end) HEAD_BYTES _ (omega arith))))
