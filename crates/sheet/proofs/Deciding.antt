@@ -1,29 +1,37 @@
 -- What follows the most bytes of a sheet changes nothing: of the bytes s ++ r, s decides.
-use Rattle.std.proofs.Common.{◌≡◌, ℕ, zero, suc, ◌+◌, ◌*◌, ◌-◌, ◌<◌, ◌≤◌, List, [], ◌∷◌, ◌++◌, length, drop, take, ℤ, Bool, true, false, None, Some, Ok, Err, Result, IfOk, ap, sym, ◌∙◌, refl, arith, length-drop, length-append, take-append-drop}
-use Rattle.std.specs.Prelude.{if◌then◌else◌, ◌==◌, Option, slice_index}
+use Rattle.std.proofs.Common.{◌≡◌, ℕ, zero, suc, ◌+◌, ◌*◌, ◌-◌, ◌<◌, ◌≤◌, List, [], ◌∷◌, ◌++◌, length, drop, take, ℤ, Bool, true, false, None, Some, Ok, Err, Result, IfOk, inl, inr, subst, ap, sym, ◌∙◌, refl, arith, length-drop, length-append, take-append-drop}
+use Rattle.std.specs.Prelude.{if◌then◌else◌, ◌==◌, Option, option_and_then, slice_index, slice_index_or}
+use Rattle.std.proofs.lemmas.Bool.{cases_lt}
 use Rattle.std.proofs.lemmas.Bool.Decides.{nat_tests}
-use Rattle.std.proofs.lemmas.List.{drop-append-le, get_or_append_left}
+use Rattle.std.proofs.lemmas.List.{drop-append-le, get_or_append_left, length-take, take_all, take-append-le}
 use Rattle.units.specs.declared.bounds.OutOfBounds.{OutOfBounds}
 use Rattle.units.specs.declared.demand.Demand.{Demand}
 use Rattle.units.specs.declared.price.Price.{Price}
 use Rattle.units.specs.Chains.{result_and_then, result_map_err}
-use Rattle.units.specs.Quantities.{demand_of, price_of, zone_net_of}
+use Rattle.units.specs.Quantities.{demand_of, no_net, price_of, zone_net_of}
+use Rattle.std.specs.Option.{option_map_or}
+use Rattle.std.specs.Result.{result_ok}
+use Rattle.source.specs.Meanings.{Meaning}
 use Rattle.source.specs.Slots.{Slot}
+use Rattle.source.specs.declared.slot.TheConstants.{SLOTS}
 use Rattle.sheet.specs.declared.fault.NumberFault.{NumberFault}
 use Rattle.sheet.specs.declared.fault.RecordFault.{RecordFault}
 use Rattle.sheet.specs.declared.fault.RecordFault.TheVariants as rf
 use Rattle.sheet.specs.declared.fault.SheetFault.{SheetFault}
 use Rattle.sheet.specs.declared.fault.SheetFault.TheVariants as sf
 use Rattle.sheet.specs.declared.fault.Spot.{Spot}
-use Rattle.sheet.specs.declared.length.TheConstants.{AVOIDED_BYTES, HEAD_BYTES, NUMBER_BYTES, RECORD_BYTES}
+use Rattle.sheet.specs.declared.head.Head.{Head}
+use Rattle.sheet.specs.declared.length.TheConstants.{AVOIDED_BYTES, DECIDING_BYTES, HEAD_BYTES, NUMBER_BYTES, RECORD_BYTES, SHEET_BYTES}
 use Rattle.sheet.specs.declared.number.GroupsFault.TheVariants as gf
 use Rattle.sheet.specs.Groups.{Groups, groups}
 use Rattle.sheet.specs.Numbers.{Number, ahead, quantity}
 use Rattle.sheet.specs.Records.{demand_and_price, in_record, reported, SlotTold, slot_told, by_lead}
 use Rattle.sheet.specs.Heads.{avoided_at, by_flag, front, head_of, opening, opens}
 use Rattle.sheet.specs.Slots.{slots_told, SlotsTold, slot_and_later, spot_at}
-use Rattle.sheet.specs.Sheets.{nothing_follows}
-use Rattle.sheet.proofs.Places.{judged}
+use Rattle.sheet.specs.Sheets.{fault_of_slots, first_fault, nothing_follows, sheet_avoided, sheet_net, sheet_slots, slots_from}
+use Rattle.sheet.specs.Readers.{RecordOrFault, RecordParts, fault_alone, in_sheet, record_and_later, record_at, record_bytes, record_telling, records_from, records_of_sheet}
+use Rattle.sheet.specs.Laws.{Decides}
+use Rattle.sheet.proofs.Places.{fault_after, judged, slots_after}
 
 -- y is what x is, and where that is a value it ends at the byte n at the latest
 record Kept {X E : Type 0} (end : X → ℕ) (n : ℕ) (x y : Result X E) : Type 0 where
@@ -193,3 +201,91 @@ head_kept s r h =
     chain _ _ (renamed sf.Head (quantity_kept zone_net_of front s r 4 (omega arith))) (λ net k.
     chain _ _ (avoided_kept s r net.1 (omega arith)) (λ avoided j.
     kept (λ x. x.end) HEAD_BYTES _ (omega arith))))
+
+-- a record as a reader hands it out
+parts_same : (p : Spot) (lead : ℕ) (s r : List ℕ) (t : SlotTold) → IfOk t (λ x. x.1 ≤ RECORD_BYTES) → RECORD_BYTES ≤ length (lead ∷ s) → record_telling p (lead ∷ (s ++ r)) t ≡ record_telling p (lead ∷ s) t
+parts_same p lead s r (Ok told) l h =
+    let e : take (told.1 - 1) (s ++ r) ≡ take (told.1 - 1) s = take-append-le (told.1 - 1) s r (omega arith) in
+    ap (λ (body : List ℕ). let x : Result RecordParts RecordFault = Ok (record { place = p.place; lead = lead; body = body; tells = told.0 }) in x) e
+parts_same p lead s r (Err f) l h = refl
+
+parts_short : (p : Spot) (s : List ℕ) (t : SlotTold) → IfOk t (λ x. x.1 ≤ RECORD_BYTES) → IfOk (in_sheet (record_telling p s t)) (λ x. length (record_bytes x) ≤ RECORD_BYTES)
+parts_short p s (Ok told) l = omega (arith, length-take (told.1 - 1) (drop 1 s))
+parts_short p s (Err f) l = tt
+
+record_same : (p : Spot) (s r : List ℕ) → RECORD_BYTES ≤ length s → record_at p (s ++ r) ≡ record_at p s
+record_same p [] r h = absurd (omega arith)
+record_same p (lead ∷ s) r h =
+    let t = told_kept p (lead ∷ s) r h in
+    ap (record_telling p (lead ∷ (s ++ r))) t.same ∙ parts_same p lead s r (slot_told p (lead ∷ s)) t.short h
+
+handed_after : (x : RecordOrFault) (f g : ℕ → List RecordOrFault) → IfOk x (λ x. length (record_bytes x) ≤ RECORD_BYTES) → ((m : ℕ) → m ≤ RECORD_BYTES → g m ≡ f m)
+    → record_and_later x g ≡ record_and_later x f
+handed_after (Ok x) f g h next = ap (λ (xs : List RecordOrFault). let ys : List RecordOrFault = Ok x ∷ xs in ys) (next (length (record_bytes x)) h)
+handed_after (Err e) f g h next = refl
+
+handed_same : (k : ℕ) (s r : List ℕ) (i at : ℕ) → at + k * RECORD_BYTES < length s → records_from k (s ++ r) i at ≡ records_from k s i at
+unfolding records_from
+handed_same zero s r i at h = ap fault_alone (follows_same s r at (omega arith))
+handed_same (suc k) s r i at h =
+    let b : at ≤ length s = omega arith in
+    let l : RECORD_BYTES ≤ length (drop at s) = omega (arith, length-drop at s) in
+    let here : record_at (spot_at at i) (drop at (s ++ r)) ≡ record_at (spot_at at i) (drop at s) = ap (record_at (spot_at at i)) (drop-append-le at s r b) ∙ record_same (spot_at at i) (drop at s) r l in
+    rw here (handed_after (in_sheet (record_at (spot_at at i) (drop at s))) (λ m. records_from k s (i + 1) (at + m)) (λ m. records_from k (s ++ r) (i + 1) (at + m))
+    (parts_short (spot_at at i) (drop at s) (slot_told (spot_at at i) (drop at s)) (told_kept (spot_at at i) (drop at s) [] l).short)
+    (λ m f. handed_same k s r (i + 1) (at + m) (omega arith)))
+
+-- what follows the head
+fault_from : (s r : List ℕ) (x : Result ℕ RecordFault) (n : ℕ) → IfOk x (λ end. end ≤ n) → n < length s → fault_of_slots (s ++ r) x ≡ fault_of_slots s x
+fault_from s r (Ok end) n h l = follows_same s r end (omega arith)
+fault_from s r (Err f) n h l = refl
+
+-- what is handed out after a head, or its fault; what is told of its net and its avoided value, with these slots
+abbrev records_after : List ℕ → Result Head SheetFault → Result (List RecordOrFault) SheetFault
+records_after s x = result_and_then x (λ h. Ok (records_from SLOTS s 0 h.end))
+
+abbrev told_by : List Slot → Result Head SheetFault → Meaning
+told_by v x = record { slots = λ k. slice_index_or v k None; zone = option_map_or (λ h. h.zone_net) (result_ok x) no_net; avoided = option_and_then (λ h. h.avoided) (result_ok x) }
+
+module _ (s r : List ℕ) (h : SHEET_BYTES < length s) where
+  from_kept : (at : ℕ) → at ≤ HEAD_BYTES → RowKept SHEET_BYTES (slots_from s at) (slots_from (s ++ r) at)
+  unfolding slots_from
+  from_kept at l = slots_kept SLOTS SHEET_BYTES s r 0 at (omega arith) (omega arith)
+
+  fault_same : (x : Result Head SheetFault) → IfOk x (λ v. v.end ≤ HEAD_BYTES) → fault_after (s ++ r) x ≡ fault_after s x
+  fault_same (Ok v) l =
+      let k = from_kept v.end l in
+      ap (λ (w : SlotsTold). fault_of_slots (s ++ r) w.1) k.same ∙ fault_from s r (slots_from s v.end).1 SHEET_BYTES k.short h
+  fault_same (Err f) l = refl
+
+  slots_same : (x : Result Head SheetFault) → IfOk x (λ v. v.end ≤ HEAD_BYTES) → slots_after (s ++ r) x ≡ slots_after s x
+  slots_same (Ok v) l = ap (λ (w : SlotsTold). w.0) (from_kept v.end l).same
+  slots_same (Err f) l = refl
+
+  records_same : (x : Result Head SheetFault) → IfOk x (λ v. v.end ≤ HEAD_BYTES) → records_after (s ++ r) x ≡ records_after s x
+  records_same (Ok v) l = ap (λ (xs : List RecordOrFault). let y : Result (List RecordOrFault) SheetFault = Ok xs in y) (handed_same SLOTS s r 0 v.end (omega arith))
+  records_same (Err f) l = refl
+
+  decides : Decides s (s ++ r)
+  unfolding first_fault sheet_slots sheet_net sheet_avoided records_of_sheet
+  decides =
+      let k = head_kept s r (omega arith) in
+      record {
+        fault = sym (rw k.same (fault_same (head_of s) k.short));
+        told = sym (rw k.same (ap (λ (v : List Slot). told_by v (head_of s)) (slots_same (head_of s) k.short)));
+        handed_out = sym (rw k.same (records_same (head_of s) k.short));
+      }
+
+-- any bytes decide themselves
+itself : (s : List ℕ) → Decides s s
+itself s = record { fault = refl; told = refl; handed_out = refl }
+
+-- the first DECIDING_BYTES of the bytes s, or all, decide s
+pub first_bytes : (s : List ℕ) → Decides (take DECIDING_BYTES s) s
+first_bytes s =
+    let P : List ℕ → Type 0 = λ t. Decides t s in
+    let Q : List ℕ → Type 0 = λ t. Decides (take DECIDING_BYTES s) t in
+    elim (cases_lt (length s) DECIDING_BYTES) [
+      inl l ↦ subst P (sym (take_all DECIDING_BYTES s (omega arith))) (itself s)
+    | inr l ↦ subst Q (take-append-drop DECIDING_BYTES s) (decides (take DECIDING_BYTES s) (drop DECIDING_BYTES s) (omega (arith, length-take DECIDING_BYTES s)))
+    ]
