@@ -1,6 +1,7 @@
-pub mod Deciding
+pub mod FirstBytes
 pub mod Firsts
 pub mod Handing
+pub mod Kept
 pub mod Leads
 pub mod Opening
 pub mod Parts

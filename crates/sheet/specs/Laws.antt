@@ -50,7 +50,7 @@ pub record ByRecords (s : List ℕ) (xs : List RecordOrFault) : Type 0 where
   pub each : (k : ℕ) (r : RecordParts) → slice_get records k ≡ Some r → IsRecord s k (head.end + length (all_bytes (take k records))) r
 
 -- the bytes t decide the sheet s: they have its first fault, tell what it tells, and the same is handed out of them
-pub record Decides (t s : List ℕ) : Type 0 where
+pub record DecideSheet (t s : List ℕ) : Type 0 where
   pub fault : first_fault t ≡ first_fault s
   pub told : sheet_meaning t ≡ sheet_meaning s
   pub handed_out : records_of_sheet t ≡ records_of_sheet s

@@ -15,7 +15,3 @@ pub const HEAD_BYTES: usize = 4 + NUMBER_BYTES + AVOIDED_BYTES;
 
 /// The most bytes of a sheet.
 pub const SHEET_BYTES: usize = HEAD_BYTES + SLOTS * RECORD_BYTES;
-
-/// The bytes that decide how a sheet is read: its most bytes and one more. No byte after these changes what is told or
-/// refused, nor the refusal's place.
-pub const DECIDING_BYTES: usize = SHEET_BYTES + 1;

@@ -3,6 +3,7 @@
 
 mod fault;
 mod head;
+mod input;
 mod length;
 mod number;
 mod part;
@@ -12,7 +13,8 @@ mod slot_record;
 
 pub use fault::{HEAD, NumberFault, RecordFault, SheetFault, Spot};
 pub use head::{Head, OPENING};
-pub use length::{AVOIDED_BYTES, DECIDING_BYTES, HEAD_BYTES, NUMBER_BYTES, RECORD_BYTES, SHEET_BYTES};
+pub use input::{DECIDING_BYTES, deciding, read_deciding};
+pub use length::{AVOIDED_BYTES, HEAD_BYTES, NUMBER_BYTES, RECORD_BYTES, SHEET_BYTES};
 pub use reader::Reader;
 pub use sheet::Sheet;
 pub use slot_record::Record;

@@ -1,6 +1,7 @@
 // A packed sheet as a price source.
-ghost use Rattle.std.specs.Prelude.{◌≡◌, ◌≤◌, None, Err, length, replicate};
+ghost use Rattle.std.specs.Prelude.{◌≡◌, ◌≤◌, None, Ok, Err, length, replicate};
 ghost use Rattle.sheet.specs.Laws.{Placed, Silent};
+ghost use Rattle.sheet.specs.declared.length.TheConstants.{SHEET_BYTES};
 ghost use Rattle.sheet.specs.Sheets.{fault_of_slots, first_fault, sheet_avoided, sheet_meaning, sheet_net, sheet_slots, slots_from};
 
 use crate::fault::SheetFault;
@@ -69,11 +70,12 @@ impl<'a> Sheet<'a> {
     }
 
     /// The first fault from the front of the sheet, or that there is none.
-    #[tactic(auto, using(crate::proofs::Firsts::placed, crate::proofs::Firsts::silent))]
+    #[tactic(auto, using(crate::proofs::Firsts::placed, crate::proofs::Firsts::silent, crate::proofs::FirstBytes::no_longer))]
     pub fn check(&self) -> Result<(), SheetFault>
         ensures first { result ≡ first_fault self.now.bytes.now }
         ensures placed { (f : SheetFault) → result ≡ Err f → Placed self.now.bytes.now f }
         ensures silent { (f : SheetFault) → result ≡ Err f → Silent self.now.bytes.now f }
+        ensures no_longer_than_a_sheet { result ≡ Ok tt → length self.now.bytes.now ≤ SHEET_BYTES }
     {
         self.checked
     }
