@@ -2,9 +2,10 @@
 use Rattle.std.specs.Prelude.{ℕ, List, [], ◌∷◌, ◌++◌, Ok, Err, Result}
 use Rattle.pricing.specs.Quotes.{Answer}
 use Rattle.pricing.specs.declared.codes.FiveQuotes.{FiveQuotes}
+use Rattle.sheet.specs.Marks.{line_end}
 use Rattle.sheet.specs.Faults.{fault_text}
 use Rattle.sheet.specs.declared.fault.SheetFault.{SheetFault}
-use Rattle.lines.specs.Texts.{answer_text, line_end}
+use Rattle.lines.specs.Texts.{answer_text}
 use Rattle.lines.specs.declared.quarter_lines.QuarterLines.{QuarterLines}
 
 -- the quote or the refusal of each code, from 1 to 5

@@ -1,10 +1,10 @@
 -- The text that is printed of a sheet's records, a line for each.
 use Rattle.std.specs.Prelude.{ℕ, ◌+◌, ◌/◌, ◌%◌, List, [], ◌∷◌, ◌++◌, Ok, Err, decimal, flat_map, Result}
 use Rattle.std.specs.Char.{digit_char}
+use Rattle.sheet.specs.Marks.{line_end, space}
 use Rattle.sheet.specs.Readers.{RecordOrFault, RecordParts, records_of_sheet}
 use Rattle.sheet.specs.declared.fault.SheetFault.{SheetFault}
 use Rattle.lines.specs.Quarters.{fault_line}
-use Rattle.lines.specs.Texts.{line_end, space}
 
 -- the two hexadecimal digits of a byte
 abbrev pub hex_text : ℕ → List ℕ

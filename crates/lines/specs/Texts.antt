@@ -6,19 +6,8 @@ use Rattle.pricing.specs.declared.fault.QuoteFault.{QuoteFault}
 use Rattle.pricing.specs.declared.quote.Quote.{Quote}
 use Rattle.pricing.specs.declared.quote.QuoteDirection.{QuoteDirection}
 use Rattle.units.specs.Text.{euros}
+use Rattle.sheet.specs.Marks.{line_end, refusal_mark, space}
 use Rattle.lines.specs.declared.line.Line.{Line}
-
--- the byte that stands between two fields of a line
-abbrev pub space : ℕ
-space = 0x20
-
--- the byte that ends a line
-abbrev pub line_end : ℕ
-line_end = 0x0A
-
--- the byte that marks a refusal, !
-abbrev pub refusal_mark : ℕ
-refusal_mark = 0x21
 
 -- the line of a quote: the code, the letter of the direction, euros per MWh
 abbrev pub quote_text : ℕ → QuoteDirection → ℤ → List ℕ

@@ -1,5 +1,6 @@
 // All lines of one quarter: a line for each code, or the refusal of its sheet.
-ghost use Rattle.std.specs.Prelude.{◌≡◌, Some};
+ghost use Rattle.std.specs.Prelude.{◌≡◌, ℕ, List, Some};
+ghost use Rattle.sheet.specs.Laws.{DecideSheet};
 ghost use Rattle.lines.specs.Answers.{IsAnswer, IsPrinted};
 ghost use Rattle.lines.specs.Quarters.{answers_by_code, five_text, lines_text};
 ghost use Rattle.lines.specs.declared.quarter_lines.QuarterLines.{QuarterLines};
@@ -80,10 +81,11 @@ fn quotes_of(bytes: &[u8]) -> Result<FiveQuotes, SheetFault>
     Ok(five_quotes(&sheet))
 }
 
-/// The lines of a sheet of any bytes.
-#[tactic(auto, using(crate::proofs::Only::only_answer))]
+/// The lines of a sheet of any bytes, which are those of every sheet that the bytes decide.
+#[tactic(auto, using(crate::proofs::Only::only_answer, crate::proofs::Decided::answers_decided))]
 pub fn lines_of(bytes: &[u8]) -> QuarterLines
     ensures answer { IsAnswer bytes.now result }
+    ensures answers_decided { (s : List ℕ) → DecideSheet bytes.now s → IsAnswer s result }
     ensures only_answer { (l : QuarterLines) → IsAnswer bytes.now l → l ≡ result }
     ensures text { IsPrinted bytes.now (lines_text result) }
 {

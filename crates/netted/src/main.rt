@@ -1,8 +1,8 @@
 // Lays the netting fill over a packed sheet, and writes the filled sheet.
 #![tactic(auto)]
 
-use command::{Failure, Manual, Program, Status, Takes, read_at_most, run};
-use sheet::{DECIDING_BYTES, Sheet};
+use command::{Failure, Manual, Program, Status, Takes, run};
+use sheet::{Sheet, read_deciding};
 use source::NettingFill;
 use std::io::Read;
 use std::process::ExitCode;
@@ -32,7 +32,7 @@ impl Program for Netted {
         input: I,
         _strict: bool,
     ) -> Result<Status, Failure> {
-        let bytes = read_at_most(rt.alloc(), input, DECIDING_BYTES as u64).map_err(Failure::Input)?;
+        let bytes = read_deciding(rt.alloc(), input).map_err(Failure::Input)?;
         let sheet = Sheet::read(bytes.as_slice());
         if let Err(fault) = sheet.check() {
             let _ = eprintln!(rt; "{fault}");

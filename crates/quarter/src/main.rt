@@ -1,10 +1,10 @@
 // Prints the price of one quarter hour under five rulebooks, from a packed sheet.
 #![tactic(auto)]
 
-use command::{Failure, Manual, Program, Status, Takes, read_at_most, run};
+use command::{Failure, Manual, Program, Status, Takes, run};
 use lines::{FiveLines, lines_of};
 use pricing::QuoteFault;
-use sheet::DECIDING_BYTES;
+use sheet::read_deciding;
 use std::io::{Eprint, Read};
 use std::process::ExitCode;
 use std::rt::Runtime;
@@ -42,7 +42,7 @@ impl Program for Quarter {
         input: I,
         strict: bool,
     ) -> Result<Status, Failure> {
-        let sheet = read_at_most(rt.alloc(), input, DECIDING_BYTES as u64).map_err(Failure::Input)?;
+        let sheet = read_deciding(rt.alloc(), input).map_err(Failure::Input)?;
         let lines = lines_of(sheet.as_slice());
         rt.print(lines).map_err(Failure::Output)?;
         let Ok(quotes) = lines.answer else {

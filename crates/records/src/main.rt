@@ -1,9 +1,9 @@
 // Prints a line for each record of a packed sheet.
 #![tactic(auto)]
 
-use command::{Failure, Manual, Program, Status, Takes, read_at_most, run};
+use command::{Failure, Manual, Program, Status, Takes, run};
 use lines::RecordLines;
-use sheet::{DECIDING_BYTES, Sheet};
+use sheet::{Sheet, read_deciding};
 use std::io::Read;
 use std::process::ExitCode;
 use std::rt::Runtime;
@@ -31,7 +31,7 @@ impl Program for Records {
         input: I,
         _strict: bool,
     ) -> Result<Status, Failure> {
-        let bytes = read_at_most(rt.alloc(), input, DECIDING_BYTES as u64).map_err(Failure::Input)?;
+        let bytes = read_deciding(rt.alloc(), input).map_err(Failure::Input)?;
         let sheet = bytes.as_slice();
         rt.print(RecordLines { sheet }).map_err(Failure::Output)?;
         match Sheet::read(sheet).check() {

@@ -8,6 +8,7 @@ use Rattle.sheet.specs.declared.fault.SheetFault.{SheetFault}
 use Rattle.sheet.specs.declared.fault.SheetFault.TheVariants as sf
 use Rattle.sheet.specs.declared.fault.Spot.{Spot}
 use Rattle.sheet.specs.declared.fault.TheConstants.{HEAD}
+use Rattle.sheet.specs.Marks.{refusal_mark, space}
 
 -- 1: the sheet ends in the number; 3: its form isn't the one in which it is stored; 5: it is out of bounds
 abbrev pub number_number : NumberFault → ℕ
@@ -70,4 +71,4 @@ fault_slot (sf.After at) = HEAD
 
 -- the line of a refused sheet: !, number, place, one space apart
 abbrev pub fault_text : SheetFault → List ℕ
-fault_text f = 0x21 ∷ 0x20 ∷ (decimal (fault_number f) ++ (0x20 ∷ decimal (fault_place f)))
+fault_text f = refusal_mark ∷ space ∷ (decimal (fault_number f) ++ (space ∷ decimal (fault_place f)))

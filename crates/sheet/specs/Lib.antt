@@ -4,6 +4,7 @@ pub mod Records
 pub mod Heads
 pub mod Slots
 pub mod Sheets
+pub mod Marks
 pub mod Faults
 pub mod Readers
 pub mod Laws

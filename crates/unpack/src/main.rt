@@ -1,9 +1,9 @@
 // Prints the quarter of a packed sheet as plain text.
 #![tactic(auto)]
 
-use command::{Failure, Manual, Program, Status, Takes, read_at_most, run};
+use command::{Failure, Manual, Program, Status, Takes, run};
 use quarter_text::quarter_text;
-use sheet::{DECIDING_BYTES, Sheet};
+use sheet::{Sheet, read_deciding};
 use std::io::Read;
 use std::process::ExitCode;
 use std::rt::Runtime;
@@ -31,7 +31,7 @@ impl Program for Unpack {
         input: I,
         _strict: bool,
     ) -> Result<Status, Failure> {
-        let bytes = read_at_most(rt.alloc(), input, DECIDING_BYTES as u64).map_err(Failure::Input)?;
+        let bytes = read_deciding(rt.alloc(), input).map_err(Failure::Input)?;
         let sheet = Sheet::read(bytes.as_slice());
         if let Err(fault) = sheet.check() {
             let _ = eprintln!(rt; "{fault}");
