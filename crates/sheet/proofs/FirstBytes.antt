@@ -20,7 +20,7 @@ use Rattle.sheet.specs.declared.length.TheConstants.{HEAD_BYTES, RECORD_BYTES, S
 use Rattle.sheet.specs.Records.{SlotTold, slot_told}
 use Rattle.sheet.specs.Heads.{head_of}
 use Rattle.sheet.specs.Slots.{slots_told, SlotsTold, slot_and_later, spot_at}
-use Rattle.sheet.specs.Sheets.{fault_of_slots, first_fault, nothing_follows, sheet_avoided, sheet_net, sheet_slots, slots_from}
+use Rattle.sheet.specs.Sheets.{fault_of_slots, first_fault, nothing_follows, sheet_avoided, sheet_meaning, sheet_net, sheet_slots, slots_from}
 use Rattle.sheet.specs.Readers.{RecordOrFault, RecordParts, fault_alone, in_sheet, record_and_later, record_at, record_bytes, record_telling, records_from, records_of_sheet}
 use Rattle.sheet.specs.Laws.{DecideSheet}
 use Rattle.sheet.proofs.Kept.{Kept, head_kept, told_kept}
@@ -173,5 +173,27 @@ taken n s e =
     let m : n ≡ min DECIDING_BYTES (length s) = omega arith in
     rw m (take_min DECIDING_BYTES s)
 
-pub taken_decide : (n : ℕ) (s : List ℕ) → n ≡ min (length s) DECIDING_BYTES → DecideSheet (take n s) s
-taken_decide n s e = decided (take n s) s (taken n s e)
+-- so they decide s
+module _ (n : ℕ) (s : List ℕ) (e : n ≡ min (length s) DECIDING_BYTES) where
+  taken_decide : DecideSheet (take n s) s
+  taken_decide = decided (take n s) s (taken n s e)
+
+  pub fault_taken : first_fault (take n s) ≡ first_fault s
+  fault_taken = taken_decide.fault
+
+  pub told_taken : sheet_meaning (take n s) ≡ sheet_meaning s
+  told_taken = taken_decide.told
+
+  pub handed_out_taken : records_of_sheet (take n s) ≡ records_of_sheet s
+  handed_out_taken = taken_decide.handed_out
+
+-- and so does what is equal to the first DECIDING_BYTES
+module _ (t s : List ℕ) (e : t ≡ take DECIDING_BYTES s) where
+  pub fault_decided : first_fault t ≡ first_fault s
+  fault_decided = (decided t s e).fault
+
+  pub told_decided : sheet_meaning t ≡ sheet_meaning s
+  told_decided = (decided t s e).told
+
+  pub handed_out_decided : records_of_sheet t ≡ records_of_sheet s
+  handed_out_decided = (decided t s e).handed_out
