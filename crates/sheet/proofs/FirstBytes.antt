@@ -164,30 +164,10 @@ first_bytes s =
       | inr l ↦ subst Q (take-append-drop DECIDING_BYTES s) (decides (take DECIDING_BYTES s) (drop DECIDING_BYTES s) (omega (arith, length-take DECIDING_BYTES s)))
     ]
 
-pub decided : (t s : List ℕ) → t ≡ take DECIDING_BYTES s → DecideSheet t s
+decided : (t s : List ℕ) → t ≡ take DECIDING_BYTES s → DecideSheet t s
 decided t s e = rw e (first_bytes s)
 
--- as many of the bytes s as there are, but no more than DECIDING_BYTES
-pub taken : (n : ℕ) (s : List ℕ) → n ≡ min (length s) DECIDING_BYTES → take n s ≡ take DECIDING_BYTES s
-taken n s e =
-    let m : n ≡ min DECIDING_BYTES (length s) = omega arith in
-    rw m (take_min DECIDING_BYTES s)
-
--- so they decide s
-module _ (n : ℕ) (s : List ℕ) (e : n ≡ min (length s) DECIDING_BYTES) where
-  taken_decide : DecideSheet (take n s) s
-  taken_decide = decided (take n s) s (taken n s e)
-
-  pub fault_taken : first_fault (take n s) ≡ first_fault s
-  fault_taken = taken_decide.fault
-
-  pub told_taken : sheet_meaning (take n s) ≡ sheet_meaning s
-  told_taken = taken_decide.told
-
-  pub handed_out_taken : records_of_sheet (take n s) ≡ records_of_sheet s
-  handed_out_taken = taken_decide.handed_out
-
--- and so does what is equal to the first DECIDING_BYTES
+-- what is equal to the first DECIDING_BYTES of s decides s
 module _ (t s : List ℕ) (e : t ≡ take DECIDING_BYTES s) where
   pub fault_decided : first_fault t ≡ first_fault s
   fault_decided = (decided t s e).fault
@@ -197,3 +177,12 @@ module _ (t s : List ℕ) (e : t ≡ take DECIDING_BYTES s) where
 
   pub handed_out_decided : records_of_sheet t ≡ records_of_sheet s
   handed_out_decided = (decided t s e).handed_out
+
+-- as many of the bytes s as there are, but no more than DECIDING_BYTES
+pub taken : (n : ℕ) (s : List ℕ) → n ≡ min (length s) DECIDING_BYTES → take n s ≡ take DECIDING_BYTES s
+taken n s e =
+    let m : n ≡ min DECIDING_BYTES (length s) = omega arith in
+    rw m (take_min DECIDING_BYTES s)
+
+-- what shows that bytes decide s, part by part
+pub ruleset deciding_bytes = (fault_decided, told_decided, handed_out_decided, taken)

@@ -11,7 +11,7 @@ use std::io::Read;
 pub const DECIDING_BYTES: usize = SHEET_BYTES + 1;
 
 /// The first `DECIDING_BYTES` of the bytes, or all: as a sheet they are told, refused and handed out as all are.
-#[tactic(auto, using(crate::proofs::FirstBytes::taken, crate::proofs::FirstBytes::fault_taken, crate::proofs::FirstBytes::told_taken, crate::proofs::FirstBytes::handed_out_taken))]
+#[tactic(auto, using(crate::proofs::FirstBytes::deciding_bytes))]
 pub fn deciding(bytes: &[u8]) -> &[u8]
     ensures first_bytes { result.now ≡ take DECIDING_BYTES bytes.now }
     ensures decides { DecideSheet result.now bytes.now }
@@ -30,7 +30,7 @@ fn read_first<I: Read + Drop>(heap: Global, input: I, most: u64) -> io::Result<V
 }
 
 /// The bytes of an input that decide its sheet; it is asked for no more.
-#[tactic(auto, using(crate::proofs::FirstBytes::fault_decided, crate::proofs::FirstBytes::told_decided, crate::proofs::FirstBytes::handed_out_decided))]
+#[tactic(auto, using(crate::proofs::FirstBytes::deciding_bytes))]
 pub fn read_deciding<I: Read + Drop>(heap: Global, input: I) -> io::Result<Vec<u8>>
     ensures decides { IfOk result (λ v. IfSome (I.Read.remaining input) (λ xs. DecideSheet v.items xs)) }
 {
