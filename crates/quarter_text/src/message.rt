@@ -68,38 +68,56 @@ pub struct Message<'a> {
     pub word: Option<&'a [u8]>,
 }
 
-impl fmt::Display for Message<'_> {
+/// What stands where a fault is.
+#[derive(Clone, Copy)]
+struct Found<'a>(Option<&'a [u8]>);
+
+impl fmt::Display for Found<'_> {
     fn fmt<W: fmt::Write>(&self, f: &mut fmt::Formatter<W>) -> fmt::Result {
-        let line = self.fault.line.saturating_add(1);
-        if let Problem::Missing(part) = self.fault.problem {
-            return write!(f, "the text ends without {part}");
+        match self.0 {
+            Some(word) => write!(f, "`{}`", Shown(word)),
+            None => write!(f, "the end of the line"),
         }
-        match self.word {
-            Some(word) => write!(f, "line {line}: `{}`", Shown(word))?,
-            None => write!(f, "line {line}: its end")?,
-        }
-        match self.fault.problem {
-            Problem::Expected(Part::End) => write!(f, " is a word too many"),
-            Problem::Expected(part) | Problem::Missing(part) => {
-                write!(f, " stands in place of {part}")
-            }
+    }
+}
+
+/// What is wrong with a word.
+#[derive(Clone, Copy)]
+struct Wrong(Problem);
+
+impl fmt::Display for Wrong {
+    fn fmt<W: fmt::Write>(&self, f: &mut fmt::Formatter<W>) -> fmt::Result {
+        match self.0 {
+            Problem::Expected(part) | Problem::Missing(part) => write!(f, "is not {part}"),
             Problem::Bounds(OutOfBounds::Demand) => write!(
                 f,
-                " is out of bounds: a slot's demand is from -10000000 to 10000000 kW"
+                "is out of bounds: a slot's demand is from -10000000 to 10000000 kW"
             ),
             Problem::Bounds(OutOfBounds::Price) => write!(
                 f,
-                " is out of bounds: a price is from -99999.00 to 99999.00 euros"
+                "is out of bounds: a price is from -99999.00 to 99999.00 euros"
             ),
             Problem::Bounds(OutOfBounds::ZoneNet) => write!(
                 f,
-                " is out of bounds: a zone net is from -100000000 to 100000000 kW"
+                "is out of bounds: a zone net is from -100000000 to 100000000 kW"
             ),
-            Problem::NoSuchSlot => write!(f, " is out of bounds: slots are from 0 to 227"),
-            Problem::BackwardRange => write!(f, " ends before it begins"),
-            Problem::NamedTwice { slot } => write!(f, " names slot {slot} again"),
-            Problem::OthersTwice => write!(f, " names the other slots again"),
-            Problem::NotWholeKw => write!(f, " MWh over these slots is no whole number of kW"),
+            Problem::NoSuchSlot => write!(f, "is out of bounds: slots are from 0 to 227"),
+            Problem::BackwardRange => write!(f, "ends before it begins"),
+            Problem::NamedTwice { slot } => write!(f, "names slot {slot} again"),
+            Problem::OthersTwice => write!(f, "names the other slots again"),
+            Problem::NotWholeKw => write!(f, "MWh over these slots is no whole number of kW"),
+        }
+    }
+}
+
+impl fmt::Display for Message<'_> {
+    fn fmt<W: fmt::Write>(&self, f: &mut fmt::Formatter<W>) -> fmt::Result {
+        let line = self.fault.line.saturating_add(1);
+        let found = Found(self.word);
+        match self.fault.problem {
+            Problem::Missing(part) => write!(f, "the text ends without {part}"),
+            Problem::Expected(part) => write!(f, "line {line}: expected {part}, found {found}"),
+            problem => write!(f, "line {line}: {found} {}", Wrong(problem)),
         }
     }
 }

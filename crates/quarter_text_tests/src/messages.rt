@@ -12,25 +12,28 @@ fn of_head_lines(rt: HostRuntime) -> Result<(), Fail> {
         ),
         (
             "\navoided 5",
-            "line 2: `avoided` stands in place of `net` and the zone net",
+            "line 2: expected `net` and the zone net, found `avoided`",
         ),
         (
             "net",
-            "line 1: its end stands in place of the zone net in whole kW",
+            "line 1: expected the zone net in whole kW, found the end of the line",
         ),
         (
             "net 1.5",
-            "line 1: `1.5` stands in place of the zone net in whole kW",
+            "line 1: expected the zone net in whole kW, found `1.5`",
         ),
         (
             "net 5\nup 0",
-            "line 2: `up` stands in place of `avoided` and the avoided value",
+            "line 2: expected `avoided` and the avoided value, found `up`",
         ),
         (
             "net 5\navoided 1.000",
-            "line 2: `1.000` stands in place of the avoided value in euros, with two decimals at most, or -",
+            "line 2: expected the avoided value in euros, with two decimals at most, or -, found `1.000`",
         ),
-        ("net 5 kW", "line 1: `kW` is a word too many"),
+        (
+            "net 5 kW",
+            "line 1: expected the end of the line, found `kW`",
+        ),
         (
             "net 100000001",
             "line 1: `100000001` is out of bounds: a zone net is from -100000000 to 100000000 kW",
@@ -47,23 +50,23 @@ fn of_expected_words(rt: HostRuntime) -> Result<(), Fail> {
     let cases = [
         (
             "sched 5 - -",
-            "`sched` stands in place of a slot from 0 to 227, a range as 0-74, scheduled, up or down, or others",
+            "expected a slot from 0 to 227, a range as 0-74, scheduled, up or down, or others, found `sched`",
         ),
         (
             "7 5.5 - -",
-            "`5.5` stands in place of the demand in whole kW, the energy as 12.5 MWh, or unreported",
+            "expected the demand in whole kW, the energy as 12.5 MWh, or unreported, found `5.5`",
         ),
         (
             "7 5 MW -",
-            "`MW` stands in place of the up price in euros, with two decimals at most, or -",
+            "expected the up price in euros, with two decimals at most, or -, found `MW`",
         ),
         (
             "7 5 -",
-            "its end stands in place of the down price in euros, with two decimals at most, or -",
+            "expected the down price in euros, with two decimals at most, or -, found the end of the line",
         ),
-        ("7 5 - - -", "`-` is a word too many"),
-        ("others 5 - -", "`5` stands in place of `unreported`"),
-        ("others", "its end stands in place of `unreported`"),
+        ("7 5 - - -", "expected the end of the line, found `-`"),
+        ("others 5 - -", "expected `unreported`, found `5`"),
+        ("others", "expected `unreported`, found the end of the line"),
     ];
     for (line, message) in cases {
         let text = with_head(rt.alloc(), line)?;
@@ -116,23 +119,23 @@ fn of_odd_words(rt: HostRuntime) -> Result<(), Fail> {
     let cases = [
         (
             b"n\xc3\xa4t 5".as_slice(),
-            "line 1: `n\\xc3\\xa4t` stands in place of `net` and the zone net",
+            "line 1: expected `net` and the zone net, found `n\\xc3\\xa4t`",
         ),
         (
             b"net \xff".as_slice(),
-            "line 1: `\\xff` stands in place of the zone net in whole kW",
+            "line 1: expected the zone net in whole kW, found `\\xff`",
         ),
         (
             b"\0".as_slice(),
-            "line 1: `\\x00` stands in place of `net` and the zone net",
+            "line 1: expected `net` and the zone net, found `\\x00`",
         ),
         (
             b"net 5 \xe2\x80\xa8".as_slice(),
-            "line 1: `\\xe2\\x80\\xa8` is a word too many",
+            "line 1: expected the end of the line, found `\\xe2\\x80\\xa8`",
         ),
         (
             b"net 1234567890123456789012345678901234567890.".as_slice(),
-            "line 1: `1234567890123456789012345678901234567890..` stands in place of the zone net in whole kW",
+            "line 1: expected the zone net in whole kW, found `1234567890123456789012345678901234567890..`",
         ),
     ];
     for (text, message) in cases {
