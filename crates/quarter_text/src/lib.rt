@@ -5,6 +5,7 @@ mod decimal;
 mod draft;
 mod energy;
 mod fault;
+mod hint;
 mod line;
 mod message;
 mod numeral;

@@ -4,6 +4,7 @@ ghost use Rattle.std.specs.Option.{option_map};
 ghost use Rattle.quarter_text.specs.Words.{word_of};
 
 use crate::fault::{Part, Problem, TextFault};
+use crate::hint::hint;
 use crate::words::{lines_of, nth, words_of};
 use std::alloc::{AllocError, Global};
 use std::fmt;
@@ -28,7 +29,7 @@ impl fmt::Display for Part {
             ),
             Part::Demand => write!(
                 f,
-                "the demand in whole kW, the energy as 12.5 MWh, or unreported"
+                "the demand in whole kW, the energy as 12.5 MWh with three decimals at most, or unreported"
             ),
             Part::UpPrice => write!(f, "the up price in euros, with two decimals at most, or -"),
             Part::DownPrice => write!(
@@ -116,7 +117,13 @@ impl fmt::Display for Message<'_> {
         let found = Found(self.word);
         match self.fault.problem {
             Problem::Missing(part) => write!(f, "the text ends without {part}"),
-            Problem::Expected(part) => write!(f, "line {line}: expected {part}, found {found}"),
+            Problem::Expected(part) => {
+                write!(f, "line {line}: expected {part}, found {found}")?;
+                match self.word.and_then(|word| hint(self.fault, word)) {
+                    Some(hint) => write!(f, " ({hint})"),
+                    None => Ok(()),
+                }
+            }
             problem => write!(f, "line {line}: {found} {}", Wrong(problem)),
         }
     }

@@ -32,7 +32,7 @@ fn of_head_lines(rt: HostRuntime) -> Result<(), Fail> {
         ),
         (
             "net 5 kW",
-            "line 1: expected the end of the line, found `kW`",
+            "line 1: expected the end of the line, found `kW` (a number of kW has no unit after it)",
         ),
         (
             "net 100000001",
@@ -54,11 +54,11 @@ fn of_expected_words(rt: HostRuntime) -> Result<(), Fail> {
         ),
         (
             "7 5.5 - -",
-            "expected the demand in whole kW, the energy as 12.5 MWh, or unreported, found `5.5`",
+            "expected the demand in whole kW, the energy as 12.5 MWh with three decimals at most, or unreported, found `5.5` (energy has its unit after it, MWh)",
         ),
         (
             "7 5 MW -",
-            "expected the up price in euros, with two decimals at most, or -, found `MW`",
+            "expected the up price in euros, with two decimals at most, or -, found `MW` (the unit is MWh)",
         ),
         (
             "7 5 -",
@@ -109,6 +109,75 @@ fn of_other_problems(rt: HostRuntime) -> Result<(), Fail> {
         let text = with_head(rt.alloc(), lines)?;
         let said = printed(rt.alloc(), text.as_bytes())?;
         assert!(rt; said.ends_with(message), "{said}");
+    }
+    Ok(())
+}
+
+// The ends of messages on words that are nearly right, and of one at a line's end.
+#[test]
+fn of_hints(rt: HostRuntime) -> Result<(), Fail> {
+    let cases = [
+        ("7 5 mwh - -", "or -, found `mwh` (the unit is MWh)"),
+        ("7 -5 Mwh - -", "or -, found `Mwh` (the unit is MWh)"),
+        ("7 5 mW - -", "or -, found `mW` (the unit is MWh)"),
+        (
+            "7 5 KW - -",
+            "or -, found `KW` (a number of kW has no unit after it)",
+        ),
+        ("7 5 kWh - -", "or -, found `kWh`"),
+        ("7 5 MWh MWh -", "or -, found `MWh`"),
+        (
+            "7 -12.5 mwh - -",
+            "or unreported, found `-12.5` (energy has its unit after it, MWh)",
+        ),
+        (
+            "7 20MWh - -",
+            "or unreported, found `20MWh` (MWh is a word of its own)",
+        ),
+        ("7 mwh - -", "or unreported, found `mwh`"),
+        ("7 0.0001 MWh - -", "or unreported, found `0.0001`"),
+        (
+            "7 12,5 MWh - -",
+            "or unreported, found `12,5` (decimals are written with a point)",
+        ),
+        (
+            "7 5 1,50 -",
+            "or -, found `1,50` (decimals are written with a point)",
+        ),
+        (
+            "7 5 - -1,5",
+            "or -, found `-1,5` (decimals are written with a point)",
+        ),
+        ("7 5 100, -", "or -, found `100,`"),
+        ("7,5 5 - -", "scheduled, up or down, found `7,5`"),
+        ("7 5 -", "or -, found the end of the line"),
+    ];
+    for (line, message) in cases {
+        let text = with_head(rt.alloc(), line)?;
+        let said = printed(rt.alloc(), text.as_bytes())?;
+        assert!(rt; said.ends_with(message), "{said}");
+    }
+    Ok(())
+}
+
+#[test]
+fn of_byte_order_marks(rt: HostRuntime) -> Result<(), Fail> {
+    let cases = [
+        (
+            b"\xef\xbb\xbfnet 5".as_slice(),
+            "line 1: expected `net` and the zone net, found `\\xef\\xbb\\xbfnet` (the text begins with a byte order mark, which is to be left out)",
+        ),
+        (
+            b"\xef\xbb\xbf# A comment\nnet 5".as_slice(),
+            "line 1: expected `net` and the zone net, found `\\xef\\xbb\\xbf` (the text begins with a byte order mark, which is to be left out)",
+        ),
+        (
+            b"# A comment\n\xef\xbb\xbfnet 5".as_slice(),
+            "line 2: expected `net` and the zone net, found `\\xef\\xbb\\xbfnet`",
+        ),
+    ];
+    for (text, message) in cases {
+        assert_eq!(rt; printed(rt.alloc(), text)?.as_str(), message);
     }
     Ok(())
 }
