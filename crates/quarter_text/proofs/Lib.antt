@@ -5,6 +5,7 @@ pub mod LineSteps
 pub mod LineTrips
 pub mod Named
 pub mod Numbers
+pub mod Powers
 pub mod Printed
 pub mod Runs
 pub mod TextTrips

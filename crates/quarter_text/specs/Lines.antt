@@ -1,12 +1,11 @@
 -- What the words of a line say.
-use Rattle.std.specs.Prelude.{ℕ, ◌+◌, ◌*◌, ◌/◌, ◌%◌, Bool, false, List, length, ℤ, Some, None, Ok, Err, Option, Result, ◌==◌, nat_le, nat_lt, ok_or, slice_get, codes, if◌then◌else◌}
+use Rattle.std.specs.Prelude.{ℕ, zero, suc, ◌+◌, ◌-◌, ◌*◌, ◌/◌, ◌%◌, min, Bool, false, not, List, length, ℤ, Some, None, Ok, Err, Option, Result, ◌==◌, nat_le, nat_lt, ok_or, slice_get, codes, if◌then◌else◌}
 use Rattle.std.specs.Option.{option_map_or}
 use Rattle.std.specs.Str.{bytes_eq}
 use Rattle.units.specs.Chains.{result_and_then}
 use Rattle.source.specs.Slots.{Slot}
 use Rattle.units.specs.Quantities.{demand_of, price_of, zone_net_of}
 use Rattle.units.specs.declared.bounds.OutOfBounds.{OutOfBounds}
-use Rattle.units.specs.declared.bounds.OutOfBounds.TheVariants as bound
 use Rattle.units.specs.declared.bounds.TheConstants.{MOST_KW}
 use Rattle.units.specs.declared.demand.Demand.{Demand}
 use Rattle.units.specs.declared.price.Price.{Price}
@@ -14,9 +13,11 @@ use Rattle.units.specs.declared.zone_net.ZoneNet.{ZoneNet}
 use Rattle.quarter_text.specs.Faults.{ReadOrFault, at_word, expected_at, in_bounds}
 use Rattle.quarter_text.specs.Numerals.{Number, numeral, integer_of}
 use Rattle.quarter_text.specs.Ranges.{range_of, weight_of_range}
+use Rattle.quarter_text.specs.declared.decimal.TheConstants.{READ_AT_MOST}
+use Rattle.quarter_text.specs.declared.fault.EnergyFault.{EnergyFault}
 use Rattle.quarter_text.specs.declared.fault.Part.{Part}
 use Rattle.quarter_text.specs.declared.fault.Part.TheVariants as part
-use Rattle.quarter_text.specs.declared.fault.Problem.TheVariants.{Bounds, NotWholeKw}
+use Rattle.quarter_text.specs.declared.fault.Problem.TheVariants.{EnergyBounds, NotWholeKw}
 use Rattle.quarter_text.specs.declared.range.Range.{Range}
 
 -- the words of a line, each as its bytes
@@ -86,16 +87,58 @@ range_line ws = result_and_then (word_at ws 0 part.Slots) range_of
 abbrev pub kw_per_kwh : ℕ
 kw_per_kwh = 900
 
--- n kWh over slots that weigh w in all, a cycle 1 and a manual slot 225, as the power in each of them, which has to be whole
-abbrev pub power : ℕ → ℕ → Number → ReadOrFault Demand
-power k w n =
-    if nat_lt (MOST_KW * w) (n.size * kw_per_kwh) then at_word k (Bounds bound.Demand)
-    else if n.size * kw_per_kwh % w == 0 then in_bounds k (demand_of (integer_of (record { negative = n.negative; size = n.size * kw_per_kwh / w })))
-    else at_word k NotWholeKw
+-- the W of a kW
+abbrev pub watts_per_kw : ℕ
+watts_per_kw = 1000
 
--- the power of the energy at k, in MWh with up to three decimals, over slots of the weight w in all
-abbrev pub energy_at : Words → ℕ → ℕ → ReadOrFault Demand
-energy_at ws k w = result_and_then (number_at 3 ws k part.Demand) (power k w)
+-- whether n kWh over slots that weigh w in all, a cycle 1 and a manual slot 225, come to whole kW in each of them
+abbrev pub is_whole : ℕ → ℕ → Bool
+is_whole w n = n * kw_per_kwh % w == 0
+
+-- the most kWh over slots that weigh w in all that come to a demand in its bounds
+abbrev pub most_energy : ℕ → ℕ
+most_energy w = MOST_KW * w / kw_per_kwh
+
+-- the greatest number of kWh up to n that comes to whole kW
+abbrev pub whole_up_to : ℕ → ℕ → ℕ
+whole_up_to w zero = 0
+whole_up_to w (suc n) = if is_whole w (suc n) then suc n else whole_up_to w n
+
+-- the least of the k numbers of kWh after n that comes to whole kW, if one does
+abbrev pub whole_after : ℕ → ℕ → ℕ → Option ℕ
+whole_after w n zero = None
+whole_after w n (suc k) = if is_whole w (n + 1) then Some (n + 1) else whole_after w (n + 1) k
+
+-- what n kWh over slots r, that weigh w, come to in each where that is no demand, in W, and the nearest energies that come to one
+abbrev pub no_demand : Range → ℕ → Bool → ℕ → EnergyFault
+no_demand r w negative n = record {
+  first = r.first;
+  last = r.last;
+  negative = negative;
+  watts = n * kw_per_kwh * watts_per_kw / w;
+  part_more = not (n * kw_per_kwh * watts_per_kw % w == 0);
+  below = whole_up_to w (min n (most_energy w));
+  above = whole_after w n (most_energy w - n);
+}
+
+-- the same of a number, of which READ_AT_MOST kWh are taken where it is greater
+abbrev pub energy_fault : Range → ℕ → Number → EnergyFault
+energy_fault r w n = no_demand r w n.negative (min n.size READ_AT_MOST)
+
+-- n kWh over slots r, that weigh w, as the power in each of them, which has to be in its bounds, and whole
+abbrev pub power_over : ℕ → Range → ℕ → Number → ReadOrFault Demand
+power_over k r w n =
+    if nat_lt (MOST_KW * w) (n.size * kw_per_kwh) then at_word k (EnergyBounds (energy_fault r w n))
+    else if is_whole w n.size then in_bounds k (demand_of (integer_of (record { negative = n.negative; size = n.size * kw_per_kwh / w })))
+    else at_word k (NotWholeKw (energy_fault r w n))
+
+-- n kWh over slots, as the power in each of them
+abbrev pub power : ℕ → Range → Number → ReadOrFault Demand
+power k r n = power_over k r (weight_of_range r) n
+
+-- the power of the energy at k, in MWh with up to three decimals, over slots
+abbrev pub energy_at : Words → ℕ → Range → ReadOrFault Demand
+energy_at ws k r = result_and_then (number_at 3 ws k part.Demand) (power k r)
 
 -- the two prices from the word k on, to the line's end, with a demand
 abbrev pub prices_after : Words → ℕ → Demand → ReadOrFault Slot
@@ -109,5 +152,5 @@ prices_after ws k d =
 abbrev pub told_by : Words → Range → ReadOrFault Slot
 told_by ws r =
     if is_word ws 1 (codes "unreported") then result_and_then (end_at ws 2) (λ ended. Ok None)
-    else if is_word ws 2 (codes "MWh") then result_and_then (energy_at ws 1 (weight_of_range r)) (prices_after ws 3)
+    else if is_word ws 2 (codes "MWh") then result_and_then (energy_at ws 1 r) (prices_after ws 3)
     else result_and_then (quantity_at demand_of 0 ws 1 part.Demand) (prices_after ws 2)

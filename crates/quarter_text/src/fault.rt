@@ -21,6 +21,21 @@ pub enum Part {
     End,
 }
 
+/// Energy over slots that comes to no demand there, and the nearest energies that come to one. All are sizes, of
+/// which the one sign is apart.
+#[derive(Clone, Copy, PartialEq, Eq, Debug)]
+pub struct EnergyFault {
+    pub first: usize,
+    pub last: usize,
+    pub negative: bool,
+    /// The whole W in each slot, and whether there is a part of one more.
+    pub watts: u64,
+    pub part_more: bool,
+    /// The nearest energies in kWh; there may be none above.
+    pub below: u64,
+    pub above: Option<u64>,
+}
+
 /// Why a word is refused.
 #[derive(Clone, Copy, PartialEq, Eq, Debug)]
 pub enum Problem {
@@ -38,8 +53,10 @@ pub enum Problem {
     NamedTwice { slot: usize },
     /// A line before it is of the other slots too.
     OthersTwice,
-    /// The energy over these slots is no whole number of kW.
-    NotWholeKw,
+    /// The energy comes to more kW than a demand may have.
+    EnergyBounds(EnergyFault),
+    /// The energy comes to no whole number of kW.
+    NotWholeKw(EnergyFault),
 }
 
 /// A word of a line, counted from 0, and why it is refused.

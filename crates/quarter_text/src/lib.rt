@@ -4,6 +4,7 @@
 mod decimal;
 mod draft;
 mod energy;
+mod energy_text;
 mod fault;
 mod hint;
 mod line;
@@ -16,7 +17,7 @@ mod range;
 mod reading;
 mod words;
 
-pub use fault::{Part, Problem, ReadFault, TextFault, WordFault};
+pub use fault::{EnergyFault, Part, Problem, ReadFault, TextFault, WordFault};
 pub use message::{Message, word_of};
 pub use printing::quarter_text;
 pub use quarter::TextQuarter;

@@ -2,7 +2,7 @@
 ghost use Rattle.std.specs.Prelude.{◌≡◌, ◌<◌, ◌≤◌, IfOk, Ok};
 ghost use Rattle.units.specs.Chains.{result_and_then};
 ghost use Rattle.units.specs.Quantities.{demand_of};
-ghost use Rattle.quarter_text.specs.Lines.{avoided_line, end_at, is_of_others, is_word, keyword, number_at, others_line, price_at, prices_after, quantity_at, range_line, told_by, word_at, zone_net_line};
+ghost use Rattle.quarter_text.specs.Lines.{avoided_line, end_at, energy_at, is_of_others, is_word, keyword, number_at, others_line, price_at, prices_after, quantity_at, range_line, told_by, word_at, zone_net_line};
 ghost use Rattle.quarter_text.specs.Steps.{bytes_read, capped, read_number, words_in};
 ghost use Rattle.quarter_text.specs.declared.fault.Part.TheVariants as part;
 
@@ -121,6 +121,15 @@ impl<'a> Line<'a> {
         in_bounds(at, Demand::new(numeral.value()))
     }
 
+    // The demand in each slot of energy over these.
+    fn energy(&self, at: usize, range: Range) -> Result<Demand, WordFault>
+        requires { (range.first ≤ range.last) × (range.last < SLOTS) }
+        ensures { result ≡ energy_at (words_in self.now) at range }
+    {
+        let energy = self.numeral(at, Part::Demand, 3)?;
+        power(at, range, energy)
+    }
+
     // A demand, and the two prices from the word `at` to the line's end.
     fn prices(&self, at: usize, demand: Demand) -> Result<Slot, WordFault>
         requires { at ≤ 3 }
@@ -142,8 +151,7 @@ impl<'a> Line<'a> {
             return Ok(None);
         }
         if self.has(2, b"MWh") {
-            let energy = self.numeral(1, Part::Demand, 3)?;
-            return self.prices(3, power(1, range.weight(), energy)?);
+            return self.prices(3, self.energy(1, range)?);
         }
         self.prices(2, self.demand(1)?)
     }

@@ -3,6 +3,7 @@ ghost use Rattle.std.specs.Prelude.{◌≡◌, IfOk, IsOkUnless, alloc_error};
 ghost use Rattle.std.specs.Option.{option_map};
 ghost use Rattle.quarter_text.specs.Words.{word_of};
 
+use crate::energy_text::{Nearest, PowerOf};
 use crate::fault::{Part, Problem, TextFault};
 use crate::hint::hint;
 use crate::words::{lines_of, nth, words_of};
@@ -106,7 +107,15 @@ impl fmt::Display for Wrong {
             Problem::BackwardRange => write!(f, "ends before it begins"),
             Problem::NamedTwice { slot } => write!(f, "names slot {slot} again"),
             Problem::OthersTwice => write!(f, "names the other slots again"),
-            Problem::NotWholeKw => write!(f, "MWh over these slots is no whole number of kW"),
+            Problem::EnergyBounds(fault) => {
+                write!(f, "MWh is {}, out of bounds: ", PowerOf(fault))?;
+                write!(f, "a slot's demand is from -10000000 to 10000000 kW, ")?;
+                write!(f, "and {}", Nearest(fault))
+            }
+            Problem::NotWholeKw(fault) => {
+                write!(f, "MWh is {}, no whole number: ", PowerOf(fault))?;
+                write!(f, "{}", Nearest(fault))
+            }
         }
     }
 }

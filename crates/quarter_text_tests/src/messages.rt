@@ -100,15 +100,58 @@ fn of_other_problems(rt: HostRuntime) -> Result<(), Fail> {
             "others unreported\nothers unreported",
             "`others` names the other slots again",
         ),
-        (
-            "0-6 0.001 MWh - -",
-            "`0.001` MWh over these slots is no whole number of kW",
-        ),
     ];
     for (lines, message) in cases {
         let text = with_head(rt.alloc(), lines)?;
         let said = printed(rt.alloc(), text.as_bytes())?;
         assert!(rt; said.ends_with(message), "{said}");
+    }
+    Ok(())
+}
+
+#[test]
+fn of_energy(rt: HostRuntime) -> Result<(), Fail> {
+    let cases = [
+        (
+            "0-6 0.001 MWh - -",
+            "`0.001` MWh is 128.571.. kW in each of slots 0 to 6, no whole number: the nearest that can be written are 0 MWh and 0.007 MWh",
+        ),
+        (
+            "0-7 0.001 MWh - -",
+            "`0.001` MWh is 112.5 kW in each of slots 0 to 7, no whole number: the nearest that can be written are 0 MWh and 0.002 MWh",
+        ),
+        (
+            "0-15 -0.103 MWh - -",
+            "`-0.103` MWh is -5793.75 kW in each of slots 0 to 15, no whole number: the nearest that can be written are -0.1 MWh and -0.104 MWh",
+        ),
+        (
+            "0-226 -20 MWh - -",
+            "`-20` MWh is -26666.666.. kW in each of slots 0 to 226, no whole number: the nearest that can be written are -19.998 MWh and -20.001 MWh",
+        ),
+        (
+            "0-10 122.222 MWh - -",
+            "`122.222` MWh is 9999981.818.. kW in each of slots 0 to 10, no whole number: the nearest that can be written is 122.221 MWh",
+        ),
+        (
+            "down 2500.001 MWh - -",
+            "`2500.001` MWh is 10000004 kW in slot 227, out of bounds: a slot's demand is from -10000000 to 10000000 kW, and the nearest that can be written is 2500 MWh",
+        ),
+        (
+            "0-6 -77.778 MWh - -",
+            "`-77.778` MWh is -10000028.571.. kW in each of slots 0 to 6, out of bounds: a slot's demand is from -10000000 to 10000000 kW, and the nearest that can be written is -77.777 MWh",
+        ),
+        (
+            "7 -999999999999.999 MWh - -",
+            "`-999999999999.999` MWh is -1000000000000 kW or less in slot 7, out of bounds: a slot's demand is from -10000000 to 10000000 kW, and the nearest that can be written is -11.111 MWh",
+        ),
+    ];
+    for (line, message) in cases {
+        let text = with_head(rt.alloc(), line)?;
+        let said = printed(rt.alloc(), text.as_bytes())?;
+        assert_eq!(rt;
+            said.as_str(),
+            format!(in rt.alloc(); "line 3: {message}")?.as_str()
+        );
     }
     Ok(())
 }

@@ -1,10 +1,11 @@
 // Where texts are refused, and why.
 use crate::texts::{fault_in, fault_of, stretched};
+use quarter_text::EnergyFault;
 use quarter_text::Part::{
     self, Avoided, AvoidedValue, DownPrice, End, Net, Slots, Unreported, UpPrice,
 };
 use quarter_text::Problem::{
-    BackwardRange, Bounds, Expected, Missing, NamedTwice, NoSuchSlot, NotWholeKw, OthersTwice,
+    BackwardRange, Bounds, EnergyBounds, Expected, Missing, NamedTwice, NoSuchSlot, NotWholeKw, OthersTwice,
 };
 use std::test::Fail;
 use units::OutOfBounds::{Demand, Price, ZoneNet};
@@ -193,14 +194,12 @@ fn others_twice(rt: HostRuntime) -> Result<(), Fail> {
     Ok(())
 }
 
-// Each bound is read, and one more is beyond it; so is energy that is also no whole number of kW.
+// Each bound is read, and one more is beyond it.
 #[test]
 fn bounds(rt: HostRuntime) -> Result<(), Fail> {
     let cases = [
         ("7 10000000 - -", "7 10000001 - -", 1, Demand),
         ("7 -10000000 - -", "7 -10000001 - -", 1, Demand),
-        ("down 2500 MWh - -", "down 2500.001 MWh - -", 1, Demand),
-        ("0-6 -77.777 MWh - -", "0-6 -77.778 MWh - -", 1, Demand),
         ("7 5 99999 -", "7 5 99999.01 -", 2, Price),
         ("7 5 - -99999.00", "7 5 - -99999.01", 3, Price),
     ];
@@ -224,22 +223,102 @@ fn bounds_of_either_sign(rt: HostRuntime) -> Result<(), Fail> {
         let longer = format!(in rt.alloc(); "7 5 - {sign}{long}.5")?;
         let fault = fault_in(rt.alloc(), longer.as_str())?;
         assert_eq!(rt; fault, Some((2, 3, Bounds(Price))));
-        let energy = format!(in rt.alloc(); "0-227 {sign}{long}.999 MWh - -")?;
-        let fault = fault_in(rt.alloc(), energy.as_str())?;
-        assert_eq!(rt; fault, Some((2, 1, Bounds(Demand))));
     }
     Ok(())
 }
 
+// The slots and the sign of energy, what it comes to, and the nearest energies that can be written.
+fn energy(
+    slots: (usize, usize),
+    negative: bool,
+    watts: (u64, bool),
+    nearest: (u64, Option<u64>),
+) -> EnergyFault {
+    EnergyFault {
+        first: slots.0,
+        last: slots.1,
+        negative,
+        watts: watts.0,
+        part_more: watts.1,
+        below: nearest.0,
+        above: nearest.1,
+    }
+}
+
+// One kWh more than the bound, and as much as is read.
+#[test]
+fn energy_bounds(rt: HostRuntime) -> Result<(), Fail> {
+    let cases = [
+        (
+            "down 2500 MWh - -",
+            "down 2500.001 MWh - -",
+            energy(
+                (227, 227),
+                false,
+                (10_000_004_000, false),
+                (2_500_000, None),
+            ),
+        ),
+        (
+            "0-6 -77.777 MWh - -",
+            "0-6 -77.778 MWh - -",
+            energy((0, 6), true, (10_000_028_571, true), (77_777, None)),
+        ),
+        (
+            "0-227 10000 MWh - -",
+            "0-227 123456789012345678901234567890.999 MWh - -",
+            energy(
+                (0, 227),
+                false,
+                (1_000_000_000_000_000, false),
+                (10_000_000, None),
+            ),
+        ),
+    ];
+    for (within, beyond, energy) in cases {
+        assert_eq!(rt; fault_in(rt.alloc(), within)?, None, "{within}");
+        let fault = fault_in(rt.alloc(), beyond)?;
+        assert_eq!(rt; fault, Some((2, 1, EnergyBounds(energy))), "{beyond}");
+    }
+    Ok(())
+}
+
+// The nearest energies are read.
 #[test]
 fn no_whole_kw(rt: HostRuntime) -> Result<(), Fail> {
-    for line in [
-        "0-6 0.001 MWh - -",
-        "0-226 -20 MWh - -",
-        "0-100 0.5 MWh 1.000 -",
-    ] {
+    let cases = [
+        (
+            "0-6 0.001 MWh - -",
+            energy((0, 6), false, (128_571, true), (0, Some(7))),
+            ["0-6 0 MWh - -", "0-6 0.007 MWh - -"],
+        ),
+        (
+            "0-226 -20 MWh - -",
+            energy((0, 226), true, (26_666_666, true), (19_998, Some(20_001))),
+            ["0-226 -19.998 MWh - -", "0-226 -20.001 MWh - -"],
+        ),
+        (
+            "0-100 0.5 MWh 1.000 -",
+            energy((0, 100), false, (4_455_445, true), (404, Some(505))),
+            ["0-100 0.404 MWh - -", "0-100 0.505 MWh - -"],
+        ),
+        (
+            "0-7 0.001 MWh - -",
+            energy((0, 7), false, (112_500, false), (0, Some(2))),
+            ["0-7 0 MWh - -", "0-7 0.002 MWh - -"],
+        ),
+        (
+            "0-10 122.222 MWh - -",
+            energy((0, 10), false, (9_999_981_818, true), (122_221, None)),
+            ["0-10 122.221 MWh - -", "0-10 122.221 MWh - -"],
+        ),
+    ];
+    for (line, energy, nearest) in cases {
         let fault = fault_in(rt.alloc(), line)?;
-        assert_eq!(rt; fault, Some((2, 1, NotWholeKw)), "{line}");
+        assert_eq!(rt; fault, Some((2, 1, NotWholeKw(energy))), "{line}");
+        for near in nearest {
+            assert_eq!(rt; fault_in(rt.alloc(), near)?, None, "{near}");
+        }
     }
     Ok(())
 }
