@@ -192,7 +192,7 @@ fn of_hints(rt: HostRuntime) -> Result<(), Fail> {
             "or -, found `-1,5` (decimals are written with a point)",
         ),
         ("7 5 100, -", "or -, found `100,`"),
-        ("7,5 5 - -", "scheduled, up or down, found `7,5`"),
+        ("7,5 5 - -", "up or down, or others, found `7,5`"),
         ("7 5 -", "or -, found the end of the line"),
     ];
     for (line, message) in cases {

@@ -5,7 +5,8 @@ use quarter_text::Part::{
     self, Avoided, AvoidedValue, DownPrice, End, Net, Slots, Unreported, UpPrice,
 };
 use quarter_text::Problem::{
-    BackwardRange, Bounds, EnergyBounds, Expected, Missing, NamedTwice, NoSuchSlot, NotWholeKw, OthersTwice,
+    BackwardRange, Bounds, EnergyBounds, Expected, Missing, NamedTwice, NoSuchSlot, NotWholeKw,
+    OthersTwice,
 };
 use std::test::Fail;
 use units::OutOfBounds::{Demand, Price, ZoneNet};
