@@ -76,6 +76,10 @@ finished n named others None v = in_line n (at_word 0 (Missing part.Net))
 finished n named others (Some z) NotYetSaid = in_line n (at_word 0 (Missing part.Avoided))
 finished n named others (Some z) (Said v) = Ok (record { zone_net = z; avoided = v; others = unwrap_or others idle; named = named })
 
--- the quarter of a text, or the first fault; where the text ends too early, after its last line
+-- the quarter of these lines, or the first fault; where they end too early, after the last
+abbrev pub quarter_of_lines : List (List ℕ) → Result TextQuarter TextFault
+quarter_of_lines ls = result_and_then (with_lines 0 blank ls) (λ d. finished (length ls) d.named d.others d.zone_net d.avoided)
+
+-- the quarter of a text
 abbrev pub quarter_of : List ℕ → Result TextQuarter TextFault
-quarter_of text = result_and_then (with_lines 0 blank (lines_of text)) (λ d. finished (length (lines_of text)) d.named d.others d.zone_net d.avoided)
+quarter_of text = quarter_of_lines (lines_of text)

@@ -7,7 +7,7 @@ pub mod Ranges
 pub mod Lines
 pub mod Drafts
 pub mod Quarters
-pub mod Reading
+pub mod Readers
 pub mod Texts
 pub mod Trips
 pub mod Steps

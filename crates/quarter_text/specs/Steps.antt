@@ -1,21 +1,22 @@
 -- What private functions answer.
 use Rattle.std.specs.Borrow.{Bor}
-use Rattle.std.specs.Prelude.{◌≡◌, ℕ, min, List, map, Ok, Err, Result}
+use Rattle.std.specs.Prelude.{◌≡◌, ℕ, min, List, Ok, Err, Result}
 use Rattle.units.specs.Chains.{result_and_then}
+use Rattle.quarter_text.specs.Drafts.{quarter_of}
 use Rattle.quarter_text.specs.Faults.{ReadOrFault}
 use Rattle.quarter_text.specs.Lines.{Words}
 use Rattle.quarter_text.specs.Numerals.{Number}
+use Rattle.quarter_text.specs.Readers.{HasRead}
+use Rattle.quarter_text.specs.Words.{between_blanks, lines_of}
 use Rattle.quarter_text.specs.declared.decimal.TheConstants.{READ_AT_MOST}
-use Rattle.quarter_text.specs.declared.draft.Draft.{Draft}
-use Rattle.quarter_text.specs.declared.fault.ReadFault.{ReadFault}
-use Rattle.quarter_text.specs.declared.fault.ReadFault.TheVariants.{Text, Memory}
 use Rattle.quarter_text.specs.declared.fault.TextFault.{TextFault}
 use Rattle.quarter_text.specs.declared.line.Line.{Line}
 use Rattle.quarter_text.specs.declared.numeral.Numeral.{Numeral}
+use Rattle.quarter_text.specs.declared.reader.TextReader.{TextReader}
 
 -- the words of a line of the code
 abbrev pub words_in : Line → Words
-words_in l = map (λ w. w.now) l.words.now
+words_in l = between_blanks l.bytes.now
 
 -- the bytes of a word of the code
 abbrev pub bytes_read : ReadOrFault (Bor (List ℕ)) → ReadOrFault (List ℕ)
@@ -37,8 +38,7 @@ read_number x = result_and_then x (λ n. Ok (number_of n))
 abbrev pub left : {X : Type 0} → ReadOrFault (Unit {0}) → X → ReadOrFault X
 left x rest = result_and_then x (λ done. Ok rest)
 
--- a draft with one line more, or the fault of the line
-abbrev pub TakenAs : Result Draft TextFault → Result (Unit {0}) ReadFault → Draft → Type 0
-TakenAs a (Ok _) d = a ≡ Ok d
-TakenAs a (Err (Text f)) d = a ≡ Err f
-TakenAs a (Err Memory) d = Unit {0}
+-- a reader was given all lines of the text, or one of them is refused
+abbrev pub ReadsAll : List ℕ → Result TextReader TextFault → Type 0
+ReadsAll text (Ok r) = HasRead r (lines_of text)
+ReadsAll text (Err e) = quarter_of text ≡ Err e

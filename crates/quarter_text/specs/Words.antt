@@ -15,9 +15,13 @@ lines_of text = slice_split (λ b. b == line_end) text
 abbrev pub uncommented : List ℕ → List ℕ
 uncommented line = before_first (λ b. b == hash) line
 
--- the words of a line, which stand between blanks
+-- the words that stand between blanks
+abbrev pub between_blanks : List ℕ → List (List ℕ)
+between_blanks bytes = filter (λ w. nat_lt 0 (length w)) (slice_split is_blank bytes)
+
+-- the words of a line: those before its comment
 abbrev pub words_of : List ℕ → List (List ℕ)
-words_of line = filter (λ w. nat_lt 0 (length w)) (slice_split is_blank (uncommented line))
+words_of line = between_blanks (uncommented line)
 
 -- a word of a line, if there is such a line
 abbrev pub word_in : Option (List ℕ) → ℕ → Option (List ℕ)

@@ -70,7 +70,7 @@ impl Draft {
     pub(crate) fn take(&mut self, line: Line<'_>) -> Result<(), WordFault>
         ensures { left result self.new ≡ with_line self.old (words_in line.entry) }
     {
-        if line.words.is_empty() {
+        if line.is_empty() {
             return Ok(());
         }
         match (self.zone_net, self.avoided) {

@@ -1,9 +1,7 @@
 // Where a text goes wrong, and why.
 ghost use Rattle.std.specs.Prelude.{◌≡◌};
 ghost use Rattle.quarter_text.specs.Faults.{at_word, expected_at, fault_in, in_bounds};
-ghost use Rattle.quarter_text.specs.declared.fault.ReadFault.TheVariants.{Text, Memory};
 
-use std::alloc::AllocError;
 use units::OutOfBounds;
 
 /// What a line should have had at a word.
@@ -108,28 +106,5 @@ impl WordFault {
             word: self.word,
             problem: self.problem,
         }
-    }
-}
-
-/// Why a text is not read.
-#[derive(Clone, Copy, PartialEq, Eq, Debug)]
-pub enum ReadFault {
-    Text(TextFault),
-    Memory,
-}
-
-impl From<TextFault> for ReadFault {
-    ghost from_gives = { λ fault r. r ≡ Text fault };
-
-    fn from(fault: TextFault) -> ReadFault {
-        ReadFault::Text(fault)
-    }
-}
-
-impl From<AllocError> for ReadFault {
-    ghost from_gives = { λ _ r. r ≡ Memory };
-
-    fn from(_error: AllocError) -> ReadFault {
-        ReadFault::Memory
     }
 }

@@ -14,11 +14,14 @@ mod printing;
 mod product;
 mod quarter;
 mod range;
+mod reader;
 mod reading;
 mod words;
 
-pub use fault::{EnergyFault, Part, Problem, ReadFault, TextFault, WordFault};
-pub use message::{Message, word_of};
+pub use fault::{EnergyFault, Part, Problem, TextFault, WordFault};
+pub use message::Message;
 pub use printing::quarter_text;
 pub use quarter::TextQuarter;
+pub use reader::TextReader;
 pub use reading::read_quarter;
+pub use words::{nth_word, word_of};

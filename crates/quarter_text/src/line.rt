@@ -1,37 +1,68 @@
 // What the words of a line say.
-ghost use Rattle.std.specs.Prelude.{◌≡◌, ◌<◌, ◌≤◌, IfOk, Ok};
+ghost use Rattle.std.specs.Prelude.{◌≡◌, ◌<◌, ◌≤◌, IfOk, Ok, length, nat_le, slice_get};
+ghost use Rattle.std.specs.Option.{option_map};
 ghost use Rattle.units.specs.Chains.{result_and_then};
 ghost use Rattle.units.specs.Quantities.{demand_of};
 ghost use Rattle.quarter_text.specs.Lines.{avoided_line, end_at, energy_at, is_of_others, is_word, keyword, number_at, others_line, price_at, prices_after, quantity_at, range_line, told_by, word_at, zone_net_line};
 ghost use Rattle.quarter_text.specs.Steps.{bytes_read, capped, read_number, words_in};
+ghost use Rattle.quarter_text.specs.Words.{words_of};
 ghost use Rattle.quarter_text.specs.declared.fault.Part.TheVariants as part;
 
 use crate::energy::power;
 use crate::fault::{Part, WordFault, expected, in_bounds};
 use crate::numeral::Numeral;
 use crate::range::Range;
-use crate::words::nth;
+use crate::words::{nth_between_blanks, uncommented};
 use source::{Reading, SLOTS, Slot};
 use units::{Demand, Price, Quantity, ZoneNet};
 
-/// The words of a line.
+/// A line without its comment.
 #[derive(Clone, Copy)]
 pub(crate) struct Line<'a> {
-    pub(crate) words: &'a [&'a [u8]],
+    bytes: &'a [u8],
 }
 
 impl<'a> Line<'a> {
+    /// The line of these bytes.
+    pub(crate) fn of(bytes: &'a [u8]) -> Line<'a>
+        ensures { words_in result ≡ words_of bytes.now }
+    {
+        Line {
+            bytes: uncommented(bytes),
+        }
+    }
+
+    fn nth(&self, at: usize) -> Option<&'a [u8]>
+        ensures { option_map (λ w. w.now) result ≡ slice_get (words_in self.now) at }
+    {
+        nth_between_blanks(self.bytes, at)
+    }
+
+    // Whether no word stands there, nor after it.
+    fn ends_at(&self, at: usize) -> bool
+        ensures { result ≡ nat_le (length (words_in self.now)) at }
+    {
+        self.nth(at).is_none()
+    }
+
+    /// Whether the line has no words.
+    pub(crate) fn is_empty(&self) -> bool
+        ensures { result ≡ nat_le (length (words_in self.now)) 0 }
+    {
+        self.ends_at(0)
+    }
+
     fn word(&self, at: usize, part: Part) -> Result<&'a [u8], WordFault>
         ensures { bytes_read result ≡ word_at (words_in self.now) at part }
     {
-        nth(self.words, at).ok_or(expected(at, part))
+        self.nth(at).ok_or(expected(at, part))
     }
 
     // Whether this very word stands there.
     fn has(&self, at: usize, wanted: &[u8]) -> bool
         ensures { result ≡ is_word (words_in self.now) at wanted.now }
     {
-        nth(self.words, at).is_some_and(|word| word == wanted)
+        self.nth(at).is_some_and(|word| word == wanted)
     }
 
     fn keyword(&self, at: usize, part: Part, wanted: &[u8]) -> Result<(), WordFault>
@@ -46,7 +77,7 @@ impl<'a> Line<'a> {
     fn end(&self, at: usize) -> Result<(), WordFault>
         ensures { result ≡ end_at (words_in self.now) at }
     {
-        if self.words.len() > at {
+        if !self.ends_at(at) {
             return Err(expected(at, Part::End));
         }
         Ok(())

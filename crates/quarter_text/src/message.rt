@@ -1,13 +1,7 @@
 // What is said of a text that is refused.
-ghost use Rattle.std.specs.Prelude.{◌≡◌, IfOk, IsOkUnless, alloc_error};
-ghost use Rattle.std.specs.Option.{option_map};
-ghost use Rattle.quarter_text.specs.Words.{word_of};
-
 use crate::energy_text::{Nearest, PowerOf};
 use crate::fault::{Part, Problem, TextFault};
 use crate::hint::hint;
-use crate::words::{lines_of, nth, words_of};
-use std::alloc::{AllocError, Global};
 use std::fmt;
 use units::OutOfBounds;
 
@@ -136,17 +130,4 @@ impl fmt::Display for Message<'_> {
             problem => write!(f, "line {line}: {found} {}", Wrong(problem)),
         }
     }
-}
-
-/// The word at which a fault stands; nothing where the line ends before it. Only want of memory refuses it.
-pub fn word_of(heap: Global, text: &[u8], fault: TextFault) -> Result<Option<&[u8]>, AllocError>
-    ensures word { IfOk result (λ o. option_map (λ w. w.now) o ≡ word_of text.now fault.line fault.word) }
-    ensures only_memory_refuses { IsOkUnless result alloc_error }
-{
-    let lines = lines_of(heap, text)?;
-    let Some(line) = nth(lines.as_slice(), fault.line) else {
-        return Ok(None);
-    };
-    let words = words_of(heap, line)?;
-    Ok(nth(words.as_slice(), fault.word))
 }

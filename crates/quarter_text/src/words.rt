@@ -1,10 +1,10 @@
-// The words of a line.
-ghost use Rattle.std.specs.Prelude.{◌≡◌, IfOk, map, slice_get, vec_items};
+// The lines of a text, and the words of a line.
+ghost use Rattle.std.specs.Prelude.{◌≡◌, slice_get};
 ghost use Rattle.std.specs.Option.{option_map};
-ghost use Rattle.quarter_text.specs.Words.{is_blank, lines_of, words_of};
+ghost use Rattle.quarter_text.specs.Words.{between_blanks, is_blank, lines_of, uncommented, word_of, words_of};
 
 use crate::decimal::first_at;
-use std::alloc::{AllocError, Global};
+use crate::fault::TextFault;
 
 fn is_blank(byte: u8) -> bool
     ensures { result ≡ is_blank byte }
@@ -12,27 +12,40 @@ fn is_blank(byte: u8) -> bool
     matches!(byte, b' ' | b'\t' | b'\r')
 }
 
-/// The lines of a text.
-pub(crate) fn lines_of(heap: Global, text: &[u8]) -> Result<Vec<&[u8]>, AllocError>
-    ensures { IfOk result (λ v. map (λ line. line.now) (vec_items v) ≡ lines_of text.now) }
-{
-    text.split(|byte| *byte == b'\n').collect(heap)
-}
-
-/// The words of a line; a comment begins at the first `#`.
-pub(crate) fn words_of(heap: Global, line: &[u8]) -> Result<Vec<&[u8]>, AllocError>
-    ensures { IfOk result (λ v. map (λ word. word.now) (vec_items v) ≡ words_of line.now) }
+/// A line without its comment, which begins at the first `#`.
+pub(crate) fn uncommented(line: &[u8]) -> &[u8]
+    ensures { result.now ≡ uncommented line.now }
 {
     let end = first_at(line, b'#').unwrap_or(line.len());
-    line[..end]
-        .split(|byte| is_blank(*byte))
-        .filter(|word| !word.is_empty())
-        .collect(heap)
+    &line[..end]
 }
 
-/// The line or the word at a place, counted from 0, if there is one.
-pub(crate) fn nth<'a>(parts: &[&'a [u8]], place: usize) -> Option<&'a [u8]>
-    ensures { option_map (λ part. part.now) result ≡ slice_get (map (λ part. part.now) parts.now) place }
+/// The word at a place, counted from 0, of those between blanks, if there is one.
+pub(crate) fn nth_between_blanks(bytes: &[u8], place: usize) -> Option<&[u8]>
+    ensures { option_map (λ w. w.now) result ≡ slice_get (between_blanks bytes.now) place }
 {
-    parts.get(place).copied()
+    bytes
+        .split(|byte| is_blank(*byte))
+        .filter(|word| !word.is_empty())
+        .nth(place)
+}
+
+fn nth_line(text: &[u8], place: usize) -> Option<&[u8]>
+    ensures { option_map (λ l. l.now) result ≡ slice_get (lines_of text.now) place }
+{
+    text.split(|byte| *byte == b'\n').nth(place)
+}
+
+/// The word of a line at a place, counted from 0; nothing where the line ends before it.
+pub fn nth_word(line: &[u8], place: usize) -> Option<&[u8]>
+    ensures { option_map (λ w. w.now) result ≡ slice_get (words_of line.now) place }
+{
+    nth_between_blanks(uncommented(line), place)
+}
+
+/// The word of a text at which a fault stands; nothing where its line ends before it.
+pub fn word_of(text: &[u8], fault: TextFault) -> Option<&[u8]>
+    ensures { option_map (λ w. w.now) result ≡ word_of text.now fault.line fault.word }
+{
+    nth_word(nth_line(text, fault.line)?, fault.word)
 }

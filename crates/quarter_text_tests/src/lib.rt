@@ -1,4 +1,4 @@
-// Texts that are refused, texts that are read, printed texts, and quarters there and back.
+// Texts that are refused, texts that are read, also line by line, printed texts, and quarters there and back.
 #![tactic(auto)]
 
 #[cfg(test)]
@@ -9,6 +9,8 @@ mod messages;
 mod printed;
 #[cfg(test)]
 mod read;
+#[cfg(test)]
+mod reader;
 #[cfg(test)]
 mod refusals;
 #[cfg(test)]

@@ -19,7 +19,7 @@ fn energy(rt: HostRuntime) -> Result<(), Fail> {
     ];
     for (line, slot, kw) in cases {
         let text = with_head(rt.alloc(), line)?;
-        let quarter = read_quarter(rt.alloc(), text.as_bytes())?;
+        let quarter = read_quarter(text.as_bytes())?;
         let demand = quarter.slot(slot)?.map(|reading| reading.demand.kw());
         assert_eq!(rt; demand, Some(kw), "{line}");
     }

@@ -35,7 +35,7 @@ fn head_lines(rt: HostRuntime) {
     ];
     for (text, line, word, problem) in cases {
         assert_eq!(rt;
-            fault_of(rt.alloc(), text.as_bytes()),
+            fault_of(text.as_bytes()),
             Some((line, word, problem)),
             "{text}"
         );
@@ -77,7 +77,7 @@ fn no_numerals(rt: HostRuntime) -> Result<(), Fail> {
     ];
     for word in words {
         let net = format!(in rt.alloc(); "net {word}")?;
-        let net = fault_of(rt.alloc(), net.as_bytes());
+        let net = fault_of(net.as_bytes());
         let demand = fault_in(rt.alloc(), format!(in rt.alloc(); "7 {word} - -")?.as_str())?;
         let energy = fault_in(
             rt.alloc(),
@@ -216,9 +216,9 @@ fn bounds(rt: HostRuntime) -> Result<(), Fail> {
 fn bounds_of_either_sign(rt: HostRuntime) -> Result<(), Fail> {
     for sign in ["", "-"] {
         let widest = format!(in rt.alloc(); "net {sign}100000000\navoided {sign}99999")?;
-        assert_eq!(rt; fault_of(rt.alloc(), widest.as_bytes()), None);
+        assert_eq!(rt; fault_of(widest.as_bytes()), None);
         let beyond = format!(in rt.alloc(); "net {sign}100000001")?;
-        let fault = fault_of(rt.alloc(), beyond.as_bytes());
+        let fault = fault_of(beyond.as_bytes());
         assert_eq!(rt; fault, Some((0, 1, Bounds(ZoneNet))));
         let long = "123456789012345678901234567890";
         let longer = format!(in rt.alloc(); "7 5 - {sign}{long}.5")?;
@@ -337,7 +337,7 @@ fn long_texts(rt: HostRuntime) -> Result<(), Fail> {
     ];
     for (front, middle, line, word, problem) in cases {
         let text = stretched(heap, front, middle, b"\navoided 5 5")?;
-        let fault = fault_of(heap, text.as_slice());
+        let fault = fault_of(text.as_slice());
         assert_eq!(rt; fault, Some((line, word, problem)));
     }
     Ok(())

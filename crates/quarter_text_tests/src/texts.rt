@@ -1,6 +1,7 @@
 // What the library makes of a text.
-use quarter_text::{Message, Problem, ReadFault, TextFault, quarter_text, read_quarter, word_of};
+use quarter_text::{Message, Problem, TextFault, quarter_text, read_quarter, word_of};
 use std::alloc::{AllocError, Global};
+use std::test::Fail;
 use writing::sheet_vec;
 
 /// A text with a megabyte of the middle part.
@@ -24,11 +25,9 @@ pub(crate) fn with_head(heap: Global, lines: &str) -> Result<String, AllocError>
 }
 
 /// The line, the word and the problem of a text that is refused.
-pub(crate) fn fault_of(heap: Global, text: &[u8]) -> Option<(usize, usize, Problem)> {
-    match read_quarter(heap, text) {
-        Err(ReadFault::Text(fault)) => Some((fault.line, fault.word, fault.problem)),
-        _ => None,
-    }
+pub(crate) fn fault_of(text: &[u8]) -> Option<(usize, usize, Problem)> {
+    let fault = read_quarter(text).err()?;
+    Some((fault.line, fault.word, fault.problem))
 }
 
 /// The same of lines of slots, which begin at line 2.
@@ -36,25 +35,24 @@ pub(crate) fn fault_in(
     heap: Global,
     lines: &str,
 ) -> Result<Option<(usize, usize, Problem)>, AllocError> {
-    Ok(fault_of(heap, with_head(heap, lines)?.as_bytes()))
+    Ok(fault_of(with_head(heap, lines)?.as_bytes()))
 }
 
 fn message(heap: Global, text: &[u8], fault: TextFault) -> Result<String, AllocError> {
-    let word = word_of(heap, text, fault)?;
+    let word = word_of(text, fault);
     format!(in heap; "{}", Message { fault, word })
 }
 
 /// The sheet of a text.
-pub(crate) fn sheet_of(heap: Global, text: &[u8]) -> Result<Vec<u8>, ReadFault> {
-    let quarter = read_quarter(heap, text)?;
+pub(crate) fn sheet_of(heap: Global, text: &[u8]) -> Result<Vec<u8>, Fail> {
+    let quarter = read_quarter(text)?;
     Ok(sheet_vec(heap, &quarter)?)
 }
 
 /// A text, read and printed; or what is said of it, if it is refused.
 pub(crate) fn printed(heap: Global, text: &[u8]) -> Result<String, AllocError> {
-    match read_quarter(heap, text) {
+    match read_quarter(text) {
         Ok(quarter) => quarter_text(heap, &quarter),
-        Err(ReadFault::Text(fault)) => message(heap, text, fault),
-        Err(ReadFault::Memory) => Err(AllocError),
+        Err(fault) => message(heap, text, fault),
     }
 }
