@@ -1,30 +1,56 @@
-// Reads a quarter as plain text from standard input, and writes its packed sheet to standard output.
+// Reads a quarter as plain text, and writes its packed sheet.
 #![tactic(auto)]
 
-use quarter_text::{Message, ReadFault, read_quarter, word_of};
-use std::io;
-use std::io::Read;
+mod text;
+
+use crate::text::read_text;
+use command::{Failure, Manual, Program, Status, Takes, run};
+use quarter_text::{Message, nth_word};
+use std::io::{BufReader, Eprint, Read};
 use std::process::ExitCode;
+use std::rt::Runtime;
 use writing::sheet_vec;
 
-fn main(rt: HostRuntime) -> io::Result<ExitCode> {
-    let heap = rt.alloc();
-    let mut text = Vec::new(heap);
-    rt.stdin().read_to_end(&mut text)?;
-    match read_quarter(heap, text.as_slice()) {
-        Ok(quarter) => {
-            let sheet = sheet_vec(heap, &quarter)?;
-            rt.write_all(sheet.as_slice())?;
-            Ok(ExitCode::SUCCESS)
-        }
-        Err(ReadFault::Text(fault)) => {
-            let word = word_of(heap, text.as_slice(), fault)?;
-            eprintln!(rt; "{}", Message { fault, word })?;
-            Ok(ExitCode::FAILURE)
-        }
-        Err(ReadFault::Memory) => {
-            eprintln!(rt; "no memory for the text")?;
-            Ok(ExitCode::FAILURE)
+struct Pack;
+
+impl Program for Pack {
+    fn manual(&self) -> Manual<'_> {
+        Manual {
+            name: "pack",
+            summary: "a quarter as plain text to its packed sheet",
+            takes: Takes {
+                file: true,
+                strict: false,
+            },
+            reads: "a quarter as plain text, line by line",
+            writes: "its packed sheet; of a refused text the line, the word and what is wrong with it, to standard error",
+            example: "pack examples/three-levels.quarter | quarter",
         }
     }
+
+    fn answer<R: Runtime + AllocGlobal, I: Read + Drop>(
+        &self,
+        rt: &R,
+        input: I,
+        _strict: bool,
+    ) -> Result<Status, Failure> {
+        let mut input = BufReader::new(rt.alloc(), input).map_err(Failure::Input)?;
+        let mut line = Vec::new(rt.alloc());
+        match read_text(&mut input, &mut line).map_err(Failure::Input)? {
+            Ok(quarter) => {
+                let sheet = sheet_vec(rt.alloc(), &quarter)?;
+                rt.write_all(sheet.as_slice()).map_err(Failure::Output)?;
+                Ok(Status::Answered)
+            }
+            Err(fault) => {
+                let word = nth_word(line.as_slice(), fault.word);
+                let _ = eprintln!(rt; "{}", Message { fault, word });
+                Ok(Status::Refused)
+            }
+        }
+    }
+}
+
+fn main(rt: HostRuntime) -> ExitCode {
+    run(&rt, &Pack)
 }
