@@ -52,7 +52,7 @@ pub first_refused : (ls all : List (List ℕ)) (e : TextFault) → with_lines 0 
 first_refused ls all e h front =
     let whole : all ≡ ls ++ drop (length ls) all = sym (take-append-drop (length ls) all) ∙ ap (λ l. l ++ drop (length ls) all) (sym front) in
     let read : with_lines 0 blank all ≡ Err e = ap (with_lines 0 blank) whole ∙ lines_joined ls (drop (length ls) all) 0 blank ∙ rw h refl in
-    ap (λ r. result_and_then r (λ d. finished (length all) d.named d.zone_net d.avoided)) read
+    ap (λ r. result_and_then r (λ d. finished (length all) d.named d.others d.zone_net d.avoided)) read
 
 -- WHAT A LOOP OVER LINES HAS READ
 

@@ -24,7 +24,7 @@ accepted read = result_and_then read (λ d. Ok tt)
 
 -- the quarter that a reader tells at the end
 abbrev pub quarter_read : TextReader → Result TextQuarter TextFault
-quarter_read r = result_and_then (read_so_far r) (λ d. finished r.lines d.named d.zone_net d.avoided)
+quarter_read r = result_and_then (read_so_far r) (λ d. finished r.lines d.named d.others d.zone_net d.avoided)
 
 -- a reader was given these lines, and no others
 abbrev pub HasRead : TextReader → List (List ℕ) → Type 0
