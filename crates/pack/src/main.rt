@@ -1,11 +1,8 @@
 // Reads a quarter as plain text, and writes its packed sheet.
 #![tactic(auto)]
 
-mod text;
-
-use crate::text::read_text;
 use command::{Failure, Manual, Program, Status, Takes, run};
-use quarter_text::{Message, nth_word};
+use quarter_text::{Message, nth_word, read_quarter_from};
 use std::io::{BufReader, Eprint, Read};
 use std::process::ExitCode;
 use std::rt::Runtime;
@@ -36,7 +33,7 @@ impl Program for Pack {
     ) -> Result<Status, Failure> {
         let mut input = BufReader::new(rt.alloc(), input).map_err(Failure::Input)?;
         let mut line = Vec::new(rt.alloc());
-        match read_text(&mut input, &mut line).map_err(Failure::Input)? {
+        match read_quarter_from(&mut input, &mut line).map_err(Failure::Input)? {
             Ok(quarter) => {
                 let sheet = sheet_vec(rt.alloc(), &quarter)?;
                 rt.write_all(sheet.as_slice()).map_err(Failure::Output)?;

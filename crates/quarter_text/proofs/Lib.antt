@@ -1,6 +1,7 @@
 pub mod Capped
 pub mod Cuts
 pub mod Digits
+pub mod InputSteps
 pub mod LineSteps
 pub mod LineTrips
 pub mod Named

@@ -48,11 +48,15 @@ goes_on r l s read counted ls h below =
     )
 
 -- a fault of the first lines is the fault of all
-pub first_refused : (ls all : List (List ℕ)) (e : TextFault) → with_lines 0 blank ls ≡ Err e → ls ≡ take (length ls) all → quarter_of_lines all ≡ Err e
+pub joined_refused : (ls others : List (List ℕ)) (e : TextFault) → with_lines 0 blank ls ≡ Err e → quarter_of_lines (ls ++ others) ≡ Err e
+joined_refused ls others e h =
+    let read : with_lines 0 blank (ls ++ others) ≡ Err e = lines_joined ls others 0 blank ∙ rw h refl in
+    ap (λ r. result_and_then r (λ d. finished (length (ls ++ others)) d.named d.others d.zone_net d.avoided)) read
+
+first_refused : (ls all : List (List ℕ)) (e : TextFault) → with_lines 0 blank ls ≡ Err e → ls ≡ take (length ls) all → quarter_of_lines all ≡ Err e
 first_refused ls all e h front =
     let whole : all ≡ ls ++ drop (length ls) all = sym (take-append-drop (length ls) all) ∙ ap (λ l. l ++ drop (length ls) all) (sym front) in
-    let read : with_lines 0 blank all ≡ Err e = ap (with_lines 0 blank) whole ∙ lines_joined ls (drop (length ls) all) 0 blank ∙ rw h refl in
-    ap (λ r. result_and_then r (λ d. finished (length all) d.named d.others d.zone_net d.avoided)) read
+    ap quarter_of_lines whole ∙ joined_refused ls (drop (length ls) all) e h
 
 -- WHAT A LOOP OVER LINES HAS READ
 
@@ -63,7 +67,7 @@ lines_few text = omega (arith, length-slice_split (λ b. b == line_end) text, co
 abbrev bytes : List (Bor (List ℕ)) → List (List ℕ)
 bytes ls = map (λ l. l.now) ls
 
-refusal : (r : Result Draft TextFault) (e : TextFault) → Err e ≡ accepted r → r ≡ Err e
+pub refusal : (r : Result Draft TextFault) (e : TextFault) → Err e ≡ accepted r → r ≡ Err e
 refusal (Ok d) e h = cc
 refusal (Err f) e h = cc
 

@@ -1,6 +1,6 @@
 -- What private functions answer.
 use Rattle.std.specs.Borrow.{Bor}
-use Rattle.std.specs.Prelude.{◌≡◌, ℕ, min, List, Ok, Err, Result}
+use Rattle.std.specs.Prelude.{◌≡◌, ℕ, Bool, min, List, [], ◌∷◌, Some, IfSome, Option, Ok, Err, Result, if◌then◌else◌}
 use Rattle.units.specs.Chains.{result_and_then}
 use Rattle.quarter_text.specs.Drafts.{quarter_of}
 use Rattle.quarter_text.specs.Faults.{ReadOrFault}
@@ -42,3 +42,7 @@ left x rest = result_and_then x (λ done. Ok rest)
 abbrev pub ReadsAll : List ℕ → Result TextReader TextFault → Type 0
 ReadsAll text (Ok r) = HasRead r (lines_of text)
 ReadsAll text (Err e) = quarter_of text ≡ Err e
+
+-- of an input whose bytes are known: its next line, whether others follow it, and what is left of the input then
+abbrev pub IsNextLine : Option (List ℕ) → List ℕ → Bool → Option (List ℕ) → Type 0
+IsNextLine known line more left = IfSome known (λ bytes. (rest : List ℕ) × (left ≡ Some rest) × (lines_of bytes ≡ line ∷ (if more then lines_of rest else [])))

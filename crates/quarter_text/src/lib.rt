@@ -7,6 +7,7 @@ mod energy;
 mod energy_text;
 mod fault;
 mod hint;
+mod input;
 mod line;
 mod message;
 mod numeral;
@@ -19,6 +20,7 @@ mod reading;
 mod words;
 
 pub use fault::{EnergyFault, Part, Problem, TextFault, WordFault};
+pub use input::read_quarter_from;
 pub use message::Message;
 pub use printing::quarter_text;
 pub use quarter::TextQuarter;

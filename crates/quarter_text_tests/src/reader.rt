@@ -1,6 +1,9 @@
 // Texts that are read line by line.
-use quarter_text::{Problem, TextFault, TextReader, nth_word};
+use quarter_text::{
+    Problem, TextFault, TextReader, nth_word, read_quarter, read_quarter_from, word_of,
+};
 use source::PriceSource;
+use std::io::Cursor;
 use std::test::Fail;
 
 #[test]
@@ -44,4 +47,32 @@ fn words(rt: HostRuntime) {
     for (place, word) in cases {
         assert_eq!(rt; nth_word(line, place), word);
     }
+}
+
+// The same as of the whole text; and the line that is refused is at hand.
+#[test]
+fn from_an_input(rt: HostRuntime) -> Result<(), Fail> {
+    let cases = [
+        ("", ""),
+        ("\n", ""),
+        ("net 5", ""),
+        ("net 5\n", ""),
+        ("net 5\navoided -", ""),
+        ("net 5\navoided -\n", ""),
+        ("net 5\r\navoided 1.000 # \n7 5 - -", "avoided 1.000 # "),
+        ("net 5\navoided -\n7 5 - - -", "7 5 - - -"),
+        ("\n\nnet\n\n", "net"),
+    ];
+    for (text, refused) in cases {
+        let mut input = Cursor::new(text.as_bytes());
+        let mut line = Vec::new(rt.alloc());
+        let read = read_quarter_from(&mut input, &mut line)?;
+        let fault = read.err();
+        assert!(rt; fault == read_quarter(text.as_bytes()).err(), "{text}");
+        assert_eq!(rt; line.as_slice(), refused.as_bytes());
+        let word = fault.and_then(|fault| word_of(text.as_bytes(), fault));
+        let at_hand = fault.and_then(|fault| nth_word(line.as_slice(), fault.word));
+        assert_eq!(rt; at_hand, word);
+    }
+    Ok(())
 }
