@@ -10,7 +10,8 @@ use std::io::Read;
 /// A sheet's most bytes and one more, by which bytes that follow the last slot are seen.
 pub const DECIDING_BYTES: usize = SHEET_BYTES + 1;
 
-/// The first `DECIDING_BYTES` of the bytes, or all: as a sheet they are told, refused and handed out as all are.
+/// The first `DECIDING_BYTES` of the bytes, or all: as a sheet they have the first fault of all the bytes, tell what these
+/// tell, and the same is handed out of them.
 #[tactic(auto, using(crate::proofs::FirstBytes::deciding_bytes))]
 pub fn deciding(bytes: &[u8]) -> &[u8]
     ensures first_bytes { result.now ≡ take DECIDING_BYTES bytes.now }
