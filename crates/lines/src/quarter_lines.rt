@@ -46,9 +46,12 @@ pub struct QuarterLines {
     pub answer: Result<FiveQuotes, SheetFault>,
 }
 
+/// The quote or the refusal of each code, from 1 to 5.
+pub type FiveAnswers = [Result<Quote, QuoteFault>; 5];
+
 impl FiveLines {
     /// The quote or the refusal of each code, from 1 to 5.
-    pub fn answers(&self) -> [Result<Quote, QuoteFault>; 5]
+    pub fn answers(&self) -> FiveAnswers
         ensures { result ≡ answers_by_code self.now.quotes }
     {
         let quotes = self.quotes;
