@@ -29,10 +29,10 @@ lines_joined [] ys n d = let z : n + 0 ≡ n = omega arith in rw z refl
 lines_joined (x ∷ xs) ys n d =
     let z : n + 1 + length xs ≡ n + length (x ∷ xs) = omega arith in
     subst (λ k. with_lines n d (x ∷ xs ++ ys) ≡ result_and_then (with_lines n d (x ∷ xs)) (λ e. with_lines k e ys)) z
-    (line_first (in_line n (with_line d (words_of x))) xs ys (n + 1) (λ e. lines_joined xs ys (n + 1) e))
+    (line_first (in_line n (with_line n d (words_of x))) xs ys (n + 1) (λ e. lines_joined xs ys (n + 1) e))
 
 one_line : (n : ℕ) (r : Result Draft TextFault) → (l : List ℕ) → result_and_then r (λ d. with_lines n d (l ∷ [])) ≡ with_next r n l
-one_line n (Ok d) l = by (in_line n (with_line d (words_of l)))
+one_line n (Ok d) l = by (in_line n (with_line n d (words_of l)))
   where
     by : (r : Result Draft TextFault) → result_and_then r (λ e. Ok e) ≡ r
     by (Ok e) = refl

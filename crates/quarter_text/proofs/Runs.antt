@@ -90,7 +90,7 @@ module _ (m : ℕ → Slot) where
 -- the n slots from a on are told to be s, and the others as before
 pub record Named (l : List (Option Slot)) (a n : ℕ) (s : Slot) : Type 0 where
   pub named : List (Option Slot)
-  pub is : name_slots l a n s ≡ Ok named
+  pub is : (f : List ℕ) → name_slots l f a n s ≡ Ok named
   pub long : length named ≡ length l
   pub inside : (i : ℕ) → a ≤ i → i < a + n → get_or named i None ≡ Some s
   pub outside : (i : ℕ) → (i < a) ⊎ (a + n ≤ i) → get_or named i None ≡ get_or l i None
@@ -102,7 +102,7 @@ named_more l a n s h e k =
     let room : a + n < length g = omega (arith, h, k.long) in
     record {
       named = set g (a + n) (Some s);
-      is = rw (k.is, free) refl;
+      is = λ f. rw (k.is f, free) refl;
       long = length-set g (a + n) (Some s) ∙ k.long;
       inside = λ i x y. ⊎_elim
           (λ (z : i ≡ a + n). subst (λ j. get_or (set g (a + n) (Some s)) j None ≡ Some s) (sym z) (get_or-set_same g (a + n) (Some s) None room))
@@ -115,5 +115,5 @@ named_more l a n s h e k =
     }
 
 pub named_run : (l : List (Option Slot)) (a n : ℕ) (s : Slot) → a + n ≤ length l → ((i : ℕ) → a ≤ i → i < a + n → get_or l i None ≡ None) → Named l a n s
-named_run l a zero s h free = record { named = l; is = refl; long = refl; inside = λ i x y. absurd (omega (arith, x, y)); outside = λ i x. refl }
+named_run l a zero s h free = record { named = l; is = λ f. refl; long = refl; inside = λ i x y. absurd (omega (arith, x, y)); outside = λ i x. refl }
 named_run l a (suc n) s h free = named_more l a n s h (free (a + n) (omega arith) (omega arith)) (named_run l a n s (omega (arith, h)) (λ i x y. free i x (omega (arith, y))))

@@ -13,7 +13,7 @@ use Rattle.writing.specs.Bytes.{sheet_bytes}
 use Rattle.writing.specs.Trips.{TellsSame}
 use Rattle.units.specs.Chains.{result_and_then}
 use Rattle.source.specs.declared.slot.TheConstants.{SLOTS}
-use Rattle.quarter_text.specs.Drafts.{blank, finished, with_line, with_lines, with_slots}
+use Rattle.quarter_text.specs.Drafts.{blank, finished, name_lines, with_line, with_lines, with_slots}
 use Rattle.quarter_text.specs.Ranges.{slots_from_to}
 use Rattle.source.specs.Tables.{idle}
 use Rattle.quarter_text.specs.Quarters.{meaning_of}
@@ -29,27 +29,35 @@ use Rattle.quarter_text.proofs.Tokens.{inline, inline_joined, inline_word, line_
 
 -- READING ON
 
--- whatever follows the text t, its lines lead from the draft d to the draft e
+-- the lines that name the slots, and the line of the others
+abbrev By : Type 0
+By = List ℕ × ℕ
+
+-- a draft whose slots are told by these lines
+abbrev by_lines : Draft → By → Draft
+by_lines d f = record { zone_net = d.zone_net; avoided = d.avoided; others = d.others; line_of_others = f.1; named = d.named; lines = f.0 }
+
+-- whatever follows the text t, and whichever lines tell the slots, its lines lead from the draft d to the draft e
 abbrev Leads : List ℕ → Draft → Draft → Type 0
-Leads t d e = (n : ℕ) (u : List ℕ) → (k : ℕ) × (with_lines n d (lines_of (t ++ u)) ≡ with_lines k e (lines_of u))
+Leads t d e = (n : ℕ) (f : By) (u : List ℕ) → (k : ℕ) × (g : By) × (with_lines n (by_lines d f) (lines_of (t ++ u)) ≡ with_lines k (by_lines e g) (lines_of u))
 
 leads_on : (d : Draft) → Leads [] d d
-leads_on d n u = (n, refl)
+leads_on d n f u = (n, f, refl)
 
 leads_both : (s t : List ℕ) (d e f : Draft) → Leads s d e → Leads t e f → Leads (s ++ t) d f
-leads_both s t d e f p q n u =
-    let a = p n (t ++ u) in
-    let b = q a.0 u in
-    (b.0, ap (λ x. with_lines n d (lines_of x)) (append_assoc s t u) ∙ a.1 ∙ b.1)
+leads_both s t d e f p q n g u =
+    let a = p n g (t ++ u) in
+    let b = q a.0 a.1 u in
+    (b.0, b.1, ap (λ x. with_lines n (by_lines d g) (lines_of x)) (append_assoc s t u) ∙ a.2 ∙ b.2)
 
-leads_line : (l : List ℕ) (d e : Draft) → inline l ≡ true → with_line d (words_of l) ≡ Ok e → Leads (l ++ (10 ∷ [])) d e
-leads_line l d e p h n u =
-    (n + 1, ap (λ x. with_lines n d (lines_of x)) (append_assoc l (10 ∷ []) u) ∙ ap (with_lines n d) (line_first l u p) ∙ rw h refl)
+leads_line : (l : List ℕ) (d e : Draft) (g : ℕ → By → By) → inline l ≡ true → ((n : ℕ) (f : By) → with_line n (by_lines d f) (words_of l) ≡ Ok (by_lines e (g n f))) → Leads (l ++ (10 ∷ [])) d e
+leads_line l d e g p h n f u =
+    (n + 1, g n f, ap (λ x. with_lines n (by_lines d f) (lines_of x)) (append_assoc l (10 ∷ []) u) ∙ ap (with_lines n (by_lines d f)) (line_first l u p) ∙ rw (h n f) refl)
 
 -- THE HEAD
 
 abbrev netted : ZoneNet → Draft
-netted z = record { zone_net = Some z; avoided = NotYetSaid; others = None; named = replicate SLOTS None }
+netted z = record { zone_net = Some z; avoided = NotYetSaid; others = None; line_of_others = 0; named = replicate SLOTS None; lines = replicate SLOTS 0 }
 
 -- what the slots without a line are, by whether a line says that they are unreported
 abbrev others_if : Bool → Slot
@@ -63,10 +71,10 @@ others_again true = refl
 others_again false = refl
 
 abbrev headed : ZoneNet → Option Price → Bool → Draft
-headed z v t = record { zone_net = Some z; avoided = Said v; others = said_if t; named = replicate SLOTS None }
+headed z v t = record { zone_net = Some z; avoided = Said v; others = said_if t; line_of_others = 0; named = replicate SLOTS None; lines = replicate SLOTS 0 }
 
 others_leads : (z : ZoneNet) (v : Option Price) (t : Bool) → Leads (others_text (others_if t)) (headed z v false) (headed z v t)
-others_leads z v true = leads_line (codes "others unreported") (headed z v false) (headed z v true) refl refl
+others_leads z v true = leads_line (codes "others unreported") (headed z v false) (headed z v true) (λ n f. (f.0, n)) refl (λ n f. refl)
 others_leads z v false = leads_on (headed z v false)
 
 abbrev net_line : ZoneNet → List ℕ
@@ -85,8 +93,8 @@ head_joined z v o =
 
 head_leads : (z : ZoneNet) (v : Option Price) (t : Bool) → Leads (head_text z.kw v (others_if t)) blank (headed z v t)
 head_leads z v t =
-    let net = leads_line (codes "net " ++ signed_decimal z.kw) blank (netted z) (head_inline z v).0 (rw (net_words z, net_there z) refl) in
-    let value = leads_line (codes "avoided " ++ price_text v) (netted z) (headed z v false) (head_inline z v).1 (rw (avoided_words v, avoided_there v) refl) in
+    let net = leads_line (codes "net " ++ signed_decimal z.kw) blank (netted z) (λ n f. f) (head_inline z v).0 (λ n f. rw (net_words z, net_there z) refl) in
+    let value = leads_line (codes "avoided " ++ price_text v) (netted z) (headed z v false) (λ n f. f) (head_inline z v).1 (λ n f. rw (avoided_words v, avoided_there v) refl) in
     let both = leads_both (net_line z) (avoided_line v) blank (netted z) (headed z v false) net value in
     subst (λ x. Leads x blank (headed z v t)) (head_joined z v (others_if t)) (leads_both (net_line z ++ avoided_line v) (others_text (others_if t)) blank (headed z v false) (headed z v t) both (others_leads z v t))
 
@@ -96,6 +104,10 @@ all_same : (n i : ℕ) (x : Option Slot) → get_or (replicate n x) i x ≡ x
 all_same zero i x = refl
 all_same (suc n) zero x = refl
 all_same (suc n) (suc i) x = all_same n i x
+
+-- a draft after the head, with these slots named
+abbrev slotted : ZoneNet → Option Price → Bool → List (Option Slot) → Draft
+slotted z v t l = with_slots (headed z v t) l (replicate SLOTS 0)
 
 -- what is named of a slot: nothing, where it is as the others
 abbrev told_of : Slot → Slot → Option Slot
@@ -108,20 +120,20 @@ record Marked (o : Slot) (m : ℕ → Slot) (j : ℕ) (l : List (Option Slot)) :
   after : (i : ℕ) → j ≤ i → get_or l i None ≡ None
 
 -- the line of a run names its slots
-run_leads : (z : ZoneNet) (v : Option Price) (t : Bool) (a b : ℕ) (s : Slot) (l : List (Option Slot)) → OneLine a b → (k : Named l a (b + 1 - a) s) → Leads (run_text a b s) (with_slots (headed z v t) l) (with_slots (headed z v t) k.named)
+run_leads : (z : ZoneNet) (v : Option Price) (t : Bool) (a b : ℕ) (s : Slot) (l : List (Option Slot)) → OneLine a b → (k : Named l a (b + 1 - a) s) → Leads (run_text a b s) (slotted z v t l) (slotted z v t k.named)
 run_leads z v t a b s l o k =
     let r = slots_read a b o in
     let words : words_of (slots_text a b ++ (32 ∷ told_text s)) ≡ slots_text a b ∷ told_words s = word_first (slots_text a b) (told_text s) r.word ∙ ap (λ w. slots_text a b ∷ w) (told_split s) in
-    let line = leads_line (slots_text a b ++ (32 ∷ told_text s)) (with_slots (headed z v t) l) (with_slots (headed z v t) k.named)
+    let line = leads_line (slots_text a b ++ (32 ∷ told_text s)) (slotted z v t l) (slotted z v t k.named) (λ n f. (name_lines f.0 a (b + 1 - a) n, f.1))
     (inline_joined (slots_text a b) (32 ∷ told_text s) (inline_word (slots_text a b) r.word.bytes) (and_from true (inline (told_text s)) refl (told_inline s)))
-    (rw (words, r.no_others, r.range (told_words s), told_there (slots_text a b) s (slots_from_to a b), k.is) refl) in
-    subst (λ x. Leads x (with_slots (headed z v t) l) (with_slots (headed z v t) k.named)) (append_assoc (slots_text a b) (32 ∷ told_text s) (10 ∷ [])) line
+    (λ n f. rw (words, r.no_others, r.range (told_words s), told_there (slots_text a b) s (slots_from_to a b), k.is f.0) refl) in
+    subst (λ x. Leads x (slotted z v t l) (slotted z v t k.named)) (append_assoc (slots_text a b) (32 ∷ told_text s) (10 ∷ [])) line
 
 -- after the first k slots
 record Stood (m : ℕ → Slot) (z : ZoneNet) (v : Option Price) (w : Bool) (k : ℕ) : Type 0 where
   named : List (Option Slot)
   marked : Marked (others_if w) m (run_start m k) named
-  leads : Leads (lines_to (others_if w) m k) (headed z v w) (with_slots (headed z v w) named)
+  leads : Leads (lines_to (others_if w) m k) (headed z v w) (slotted z v w named)
 
 module _ (m : ℕ → Slot) (z : ZoneNet) (v : Option Price) (w : Bool) where
   stood_first : Stood m z v w 0
@@ -142,7 +154,7 @@ module _ (m : ℕ → Slot) (z : ZoneNet) (v : Option Price) (w : Bool) where
   stood_on k e s = record {
     named = s.named;
     marked = subst (λ j. Marked (others_if w) m j s.named) (sym (start_stays m k e)) s.marked;
-    leads = rw e (subst (λ x. Leads x (headed z v w) (with_slots (headed z v w) s.named)) (sym (append-nil (lines_to (others_if w) m k))) s.leads);
+    leads = rw e (subst (λ x. Leads x (headed z v w) (slotted z v w s.named)) (sym (append-nil (lines_to (others_if w) m k))) s.leads);
   }
 
   -- a run ends that is as the others
@@ -158,7 +170,7 @@ module _ (m : ℕ → Slot) (z : ZoneNet) (v : Option Price) (w : Bool) where
           (cases_lt i (run_start m k));
       after = λ i l. s.marked.after i (omega (arith, l, start_low m k));
     });
-    leads = rw (e, t) (subst (λ x. Leads x (headed z v w) (with_slots (headed z v w) s.named)) (sym (append-nil (lines_to (others_if w) m k))) s.leads);
+    leads = rw (e, t) (subst (λ x. Leads x (headed z v w) (slotted z v w s.named)) (sym (append-nil (lines_to (others_if w) m k))) s.leads);
   }
 
   -- a run ends that has a line
@@ -178,7 +190,7 @@ module _ (m : ℕ → Slot) (z : ZoneNet) (v : Option Price) (w : Bool) where
               (cases_lt i a);
           after = λ i l. n.outside i (inr (omega (arith, l, low))) ∙ s.marked.after i (omega (arith, l, low));
         });
-        leads = rw (e, t) (leads_both (lines_to (others_if w) m k) (run_text a k (m k)) (headed z v w) (with_slots (headed z v w) s.named) (with_slots (headed z v w) n.named) s.leads (run_leads z v w a k (m k) s.named (one_line m k b) n));
+        leads = rw (e, t) (leads_both (lines_to (others_if w) m k) (run_text a k (m k)) (headed z v w) (slotted z v w s.named) (slotted z v w n.named) s.leads (run_leads z v w a k (m k) s.named (one_line m k b) n));
       }
 
   stood_next : (k : ℕ) → k < SLOTS → Stood m z v w k → Stood m z v w (suc k)
@@ -213,9 +225,10 @@ reads_back m =
     let o : Slot = others_if t in
     let s = stood m.slots m.zone m.avoided t SLOTS (omega arith) in
     let q : TextQuarter = record { zone_net = m.zone; avoided = m.avoided; others = unwrap_or (said_if t) idle; named = s.named } in
-    let leads = leads_both (head_text m.zone.kw m.avoided o) (lines_to o m.slots SLOTS) blank (headed m.zone m.avoided t) (with_slots (headed m.zone m.avoided t) s.named) (head_leads m.zone m.avoided t) s.leads in
+    let leads = leads_both (head_text m.zone.kw m.avoided o) (lines_to o m.slots SLOTS) blank (headed m.zone m.avoided t) (slotted m.zone m.avoided t s.named) (head_leads m.zone m.avoided t) s.leads in
     let text : List ℕ = text_with o m in
-    let read : with_lines 0 blank (lines_of text) ≡ Ok (with_slots (headed m.zone m.avoided t) s.named) = ap (λ x. with_lines 0 blank (lines_of x)) (sym (append-nil text)) ∙ (leads 0 []).1 in
+    let last = leads 0 (replicate SLOTS 0, 0) [] in
+    let read : with_lines 0 blank (lines_of text) ≡ Ok (by_lines (slotted m.zone m.avoided t s.named) last.1) = ap (λ x. with_lines 0 blank (lines_of x)) (sym (append-nil text)) ∙ last.2 in
     record {
       quarter = q;
       read = ap (λ r. result_and_then r (λ d. finished (length (lines_of text)) d.named d.others d.zone_net d.avoided)) read;

@@ -16,7 +16,7 @@ read_so_far r = option_map_or Err r.refused (Ok r.draft)
 
 -- what is read with one line more, the n-th: after a refusal that very fault
 abbrev pub with_next : Result Draft TextFault → ℕ → List ℕ → Result Draft TextFault
-with_next read n line = result_and_then read (λ d. in_line n (with_line d (words_of line)))
+with_next read n line = result_and_then read (λ d. in_line n (with_line n d (words_of line)))
 
 -- a line is accepted, unless it or one before it is refused
 abbrev pub accepted : Result Draft TextFault → Result (Unit {0}) TextFault

@@ -1,6 +1,6 @@
 // A quarter of which some lines are read.
 ghost use Rattle.std.specs.Prelude.{◌≡◌, ◌+◌, ◌-◌, ◌<◌, ◌≤◌, IfOk};
-ghost use Rattle.quarter_text.specs.Drafts.{blank, finished, name_slots, with_line, with_others};
+ghost use Rattle.quarter_text.specs.Drafts.{blank, finished, name_lines, name_slots, with_line, with_others};
 ghost use Rattle.quarter_text.specs.Steps.{left, words_in};
 
 use crate::fault::{Part, Problem, TextFault, WordFault, at_word};
@@ -24,22 +24,42 @@ pub(crate) struct Draft {
     avoided: AvoidedValue,
     /// What a line says of the slots that no line names, if one does.
     others: Option<Slot>,
+    /// The line that says it.
+    line_of_others: usize,
     named: [Option<Slot>; SLOTS],
+    /// The line that names each slot that is named.
+    lines: [usize; SLOTS],
 }
 
-// The slots of a range are told so, unless one of them was named before.
+// The slots of a range are told so, unless one of them was named before, by the line that stands in `lines`.
 #[tactic(auto, using(crate::proofs::Named::named_twice))]
-fn name_slots(named: &mut [Option<Slot>; SLOTS], range: Range, told: Slot) -> Result<(), WordFault>
+fn name_slots(
+    named: &mut [Option<Slot>; SLOTS],
+    lines: &[usize; SLOTS],
+    range: Range,
+    told: Slot,
+) -> Result<(), WordFault>
     requires { (range.first ≤ range.last) × (range.last < SLOTS) }
-    ensures { left result named.new ≡ name_slots named.old range.first (range.last + 1 - range.first) told }
+    ensures { left result named.new ≡ name_slots named.old lines.now range.first (range.last + 1 - range.first) told }
 {
     for slot in range.first..=range.last {
         if named[slot].is_some() {
-            return at_word(0, Problem::NamedTwice { slot });
+            let line = lines[slot];
+            return at_word(0, Problem::NamedTwice { slot, line });
         }
         named[slot] = Some(told);
     }
     Ok(())
+}
+
+// The slots of a range are named by this line.
+fn name_lines(lines: &mut [usize; SLOTS], range: Range, line: usize)
+    requires { (range.first ≤ range.last) × (range.last < SLOTS) }
+    ensures { lines.new ≡ name_lines lines.old range.first (range.last + 1 - range.first) line }
+{
+    for slot in range.first..=range.last {
+        lines[slot] = line;
+    }
 }
 
 impl Draft {
@@ -51,24 +71,28 @@ impl Draft {
             zone_net: None,
             avoided: AvoidedValue::NotYetSaid,
             others: None,
+            line_of_others: 0,
             named: [None; SLOTS],
+            lines: [0; SLOTS],
         }
     }
 
-    // The slots that no line names are told so, unless a line before told them.
-    fn tell_others(&mut self, told: Slot) -> Result<(), WordFault>
-        ensures { left result self.new ≡ with_others self.old told }
+    // The slots that no line names are told so by the line of this number, unless a line before told them.
+    fn tell_others(&mut self, number: usize, told: Slot) -> Result<(), WordFault>
+        ensures { left result self.new ≡ with_others number self.old told }
     {
         if self.others.is_some() {
-            return at_word(0, Problem::OthersTwice);
+            let line = self.line_of_others;
+            return at_word(0, Problem::OthersTwice { line });
         }
         self.others = Some(told);
+        self.line_of_others = number;
         Ok(())
     }
 
-    /// Takes one line more; an empty one says nothing.
-    pub(crate) fn take(&mut self, line: Line<'_>) -> Result<(), WordFault>
-        ensures { left result self.new ≡ with_line self.old (words_in line.entry) }
+    /// Takes one line more, by its number; an empty one says nothing.
+    pub(crate) fn take(&mut self, number: usize, line: Line<'_>) -> Result<(), WordFault>
+        ensures { left result self.new ≡ with_line number self.old (words_in line.entry) }
     {
         if line.is_empty() {
             return Ok(());
@@ -80,12 +104,13 @@ impl Draft {
             }
             (Some(_), AvoidedValue::Said(_)) if line.is_of_others() => {
                 let others = line.others()?;
-                self.tell_others(others)?;
+                self.tell_others(number, others)?;
             }
             (Some(_), AvoidedValue::Said(_)) => {
                 let range = line.range()?;
                 let told = line.told(range)?;
-                name_slots(&mut self.named, range, told)?;
+                name_slots(&mut self.named, &self.lines, range, told)?;
+                name_lines(&mut self.lines, range, number);
             }
         }
         Ok(())

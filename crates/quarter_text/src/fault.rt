@@ -47,10 +47,10 @@ pub enum Problem {
     NoSuchSlot,
     /// The range ends before it begins.
     BackwardRange,
-    /// A slot that a line before it names.
-    NamedTwice { slot: usize },
-    /// A line before it is of the other slots too.
-    OthersTwice,
+    /// A slot that a line before it names, counted from 0.
+    NamedTwice { slot: usize, line: usize },
+    /// A line before it, counted from 0, is of the other slots too.
+    OthersTwice { line: usize },
     /// The energy comes to more kW than a demand may have.
     EnergyBounds(EnergyFault),
     /// The energy comes to no whole number of kW.

@@ -99,8 +99,17 @@ impl fmt::Display for Wrong {
             ),
             Problem::NoSuchSlot => write!(f, "is out of bounds: slots are from 0 to 227"),
             Problem::BackwardRange => write!(f, "ends before it begins"),
-            Problem::NamedTwice { slot } => write!(f, "names slot {slot} again"),
-            Problem::OthersTwice => write!(f, "names the other slots again"),
+            Problem::NamedTwice { slot, line } => {
+                let line = line.saturating_add(1);
+                write!(f, "names slot {slot} again: line {line} names it first")
+            }
+            Problem::OthersTwice { line } => {
+                let line = line.saturating_add(1);
+                write!(
+                    f,
+                    "names the other slots again: line {line} names them first"
+                )
+            }
             Problem::EnergyBounds(fault) => {
                 write!(f, "MWh is {}, out of bounds: ", PowerOf(fault))?;
                 write!(f, "a slot's demand is from -10000000 to 10000000 kW, ")?;

@@ -54,7 +54,7 @@ impl TextReader {
         if let Some(fault) = self.refused {
             return Err(fault);
         }
-        if let Err(fault) = self.draft.take(Line::of(bytes)) {
+        if let Err(fault) = self.draft.take(line, Line::of(bytes)) {
             let fault = fault.in_line(line);
             self.refused = Some(fault);
             return Err(fault);

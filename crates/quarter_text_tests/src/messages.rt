@@ -95,10 +95,17 @@ fn of_other_problems(rt: HostRuntime) -> Result<(), Fail> {
             "`0-228` is out of bounds: slots are from 0 to 227",
         ),
         ("74-0 5 - -", "`74-0` ends before it begins"),
-        ("up 0 - -\n226 0 - -", "`226` names slot 226 again"),
         (
-            "others unreported\nothers unreported",
-            "`others` names the other slots again",
+            "0-4 5 - -\n5-9 5 - -\n\n8-20 5 - -",
+            "line 6: `8-20` names slot 8 again: line 4 names it first",
+        ),
+        (
+            "up 0 - -\n226 0 - -",
+            "line 4: `226` names slot 226 again: line 3 names it first",
+        ),
+        (
+            "5 0 - -\nothers unreported\n\nothers unreported",
+            "line 6: `others` names the other slots again: line 4 names them first",
         ),
     ];
     for (lines, message) in cases {

@@ -138,36 +138,59 @@ fn slot_words(rt: HostRuntime) -> Result<(), Fail> {
     Ok(())
 }
 
-// The first slot that is named again, whatever is told of it.
+// The first slot that is named again, whatever is told of it, and the line that names it first.
 #[test]
 fn slots_named_twice(rt: HostRuntime) -> Result<(), Fail> {
     let cases = [
-        ("7 5 - -\n7 5 - -", 3, 7),
-        ("0 0 - -\n0 unreported", 3, 0),
-        ("0-74 5 - -\n\n70-80 5 - -", 4, 70),
-        ("70-80 5 - -\n0-74 5 - -", 3, 70),
-        ("0-227 unreported\n5 5 - -", 3, 5),
-        ("scheduled 5 - -\n225 5 - -", 3, 225),
-        ("225 5 - -\nscheduled 5 - -", 3, 225),
-        ("up 5 - -\ndown 5 - -\n224-227 5 - -", 4, 226),
+        ("7 5 - -\n7 5 - -", 3, 7, 2),
+        ("0 0 - -\n0 unreported", 3, 0, 2),
+        ("0-74 5 - -\n\n70-80 5 - -", 4, 70, 2),
+        ("70-80 5 - -\n0-74 5 - -", 3, 70, 2),
+        ("0-227 unreported\n5 5 - -", 3, 5, 2),
+        ("scheduled 5 - -\n225 5 - -", 3, 225, 2),
+        ("225 5 - -\nscheduled 5 - -", 3, 225, 2),
+        ("up 5 - -\ndown 5 - -\n224-227 5 - -", 4, 226, 2),
+        ("0 5 - -\n1 5 - -\n\n2 5 - -\n1-3 5 - -", 6, 1, 3),
+        ("0 5 - -\nothers unreported\n1 5 - -\n1 5 - -", 5, 1, 4),
     ];
-    for (lines, line, slot) in cases {
+    for (lines, at, slot, line) in cases {
         let fault = fault_in(rt.alloc(), lines)?;
-        assert_eq!(rt; fault, Some((line, 0, NamedTwice { slot })), "{lines}");
+        let problem = NamedTwice { slot, line };
+        assert_eq!(rt; fault, Some((at, 0, problem)), "{lines}");
     }
     Ok(())
 }
 
-// Whatever stands between, and after what the second line says.
+// What is told of slots is refused before they are named again.
+#[test]
+fn words_before_slots_named_twice(rt: HostRuntime) -> Result<(), Fail> {
+    let cases = [
+        ("7 5 - -\n7 5 - - -", 4, Expected(End)),
+        ("7 5 - -\n7 5 -", 3, Expected(DownPrice)),
+        ("7 5 - -\n7 10000001 - -", 1, Bounds(Demand)),
+    ];
+    for (lines, word, problem) in cases {
+        let fault = fault_in(rt.alloc(), lines)?;
+        assert_eq!(rt; fault, Some((3, word, problem)), "{lines}");
+    }
+    Ok(())
+}
+
+// Whatever stands between, and after what the second line says; the line that says it first.
 #[test]
 fn others_twice(rt: HostRuntime) -> Result<(), Fail> {
     let cases = [
-        ("others unreported\nothers unreported", 3, 0, OthersTwice),
         (
-            "others unreported\n7 5 - -\n\nothers unreported",
-            5,
+            "others unreported\nothers unreported",
+            3,
             0,
-            OthersTwice,
+            OthersTwice { line: 2 },
+        ),
+        (
+            "7 5 - -\n\nothers unreported\n8 5 - -\nothers unreported",
+            6,
+            0,
+            OthersTwice { line: 4 },
         ),
         (
             "others unreported\nothers 5 - -",
@@ -185,7 +208,7 @@ fn others_twice(rt: HostRuntime) -> Result<(), Fail> {
             "7 5 - -\nothers unreported\n7 unreported",
             4,
             0,
-            NamedTwice { slot: 7 },
+            NamedTwice { slot: 7, line: 2 },
         ),
     ];
     for (lines, line, word, problem) in cases {

@@ -5,4 +5,4 @@ use Rattle.quarter_text.proofs.draft.name_slots.Given as goal
 
 abbrev pub invariant-loop-slot : goal.invariant-loop-slot
 invariant-loop-slot l =
-    (name_slots l.initial.named l.fn.range.first (l.slot - l.fn.range.first) l.fn.told ≡ Ok l.named) × (l.fn.range.first ≤ l.slot) × (length l.named ≡ SLOTS)
+    (name_slots l.initial.named l.lines l.fn.range.first (l.slot - l.fn.range.first) l.fn.told ≡ Ok l.named) × (l.fn.range.first ≤ l.slot) × (length l.named ≡ SLOTS)
