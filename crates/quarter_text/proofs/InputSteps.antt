@@ -1,13 +1,15 @@
 -- One line more of an input.
-use Rattle.std.proofs.Common.{◌≡◌, ℕ, suc, ◌+◌, ◌-◌, ◌<◌, ◌==◌, Bool, true, false, if◌then◌else◌, List, [], ◌∷◌, ◌++◌, length, take, None, Some, IfSome, Err, Option, sym, refl, ap, ap₂, ◌∙◌, subst, ⊎_elim, append_assoc, arith}
+use Rattle.std.proofs.Common.{◌≡◌, ℕ, suc, ◌+◌, ◌-◌, ◌<◌, ◌==◌, Bool, true, false, if◌then◌else◌, List, [], ◌∷◌, ◌++◌, length, take, None, Some, IfSome, Ok, Err, Option, Result, slice_get, sym, refl, ap, ap₂, ◌∙◌, subst, ⊎_elim, append_assoc, arith}
 use Rattle.std.proofs.lemmas.Bool.{cases_Bool, lt-ltb}
 use Rattle.std.proofs.lemmas.List.{length-append}
 use Rattle.std.specs.Io.BufRead.{DropsThrough, drop_through, ends_with_byte, strip_last, take_through}
 use Rattle.std.specs.List.{onto_first}
-use Rattle.quarter_text.specs.Drafts.{quarter_of, quarter_of_lines}
-use Rattle.quarter_text.specs.Readers.{GoesOn, HasRead, accepted, read_so_far}
+use Rattle.quarter_text.specs.Drafts.{in_line, quarter_of, quarter_of_lines, with_line}
+use Rattle.quarter_text.specs.Faults.{ReadOrFault}
+use Rattle.quarter_text.specs.Readers.{GoesOn, HasRead, HasWordOf, accepted, read_so_far, with_next}
 use Rattle.quarter_text.specs.Steps.{IsNextLine}
-use Rattle.quarter_text.specs.Words.{lines_of}
+use Rattle.quarter_text.specs.Words.{lines_of, word_in, words_of}
+use Rattle.quarter_text.specs.declared.draft.Draft.{Draft}
 use Rattle.quarter_text.specs.declared.fault.TextFault.{TextFault}
 use Rattle.quarter_text.specs.declared.reader.TextReader.{TextReader}
 use Rattle.quarter_text.specs.declared.reader.TheConstants.{MOST_LINES}
@@ -99,3 +101,29 @@ stands_next (Some text) now left a b k line more s n g below =
 pub stands_refused : (known left : Option (List ℕ)) (r : TextReader) (k : ℕ) (more : Bool) (e : TextFault) → Stands known left r k more → Err e ≡ accepted (read_so_far r) → IfSome known (λ text. Err e ≡ quarter_of text)
 stands_refused None left r k more e s h = tt
 stands_refused (Some text) left r k more e s h = sym (ap quarter_of_lines s.whole ∙ joined_refused s.lines (others more s.rest) e (sym s.read.0 ∙ refusal (read_so_far r) e h))
+
+-- THE LINE AT HAND
+
+after_front : (ls others : List (List ℕ)) (line : List ℕ) → slice_get (ls ++ line ∷ others) (length ls) ≡ Some line
+after_front [] others line = refl
+after_front (l ∷ ls) others line = after_front ls others line
+
+fault_line : (n : ℕ) (x : ReadOrFault Draft) (e : TextFault) → in_line n x ≡ Err e → e.line ≡ n
+fault_line n (Ok d) e h = cc
+fault_line n (Err f) e h = cc
+
+going : (r : Result Draft TextFault) → accepted r ≡ Ok tt → (d : Draft) × (r ≡ Ok d)
+going (Ok d) h = (d, refl)
+going (Err f) h = absurd cc
+
+-- a line is refused, and it is at hand
+pub hand_refused : (known now left : Option (List ℕ)) (a b : TextReader) (k : ℕ) (line : List ℕ) (more : Bool) (e : TextFault) → Stands known now a k true → IsNextLine now line more left → accepted (read_so_far a) ≡ Ok tt → read_so_far b ≡ with_next (read_so_far a) a.lines line → Err e ≡ accepted (read_so_far b)
+    → IfSome known (λ text. HasWordOf line text e)
+hand_refused None now left a b k line more e s n so_far read h = tt
+hand_refused (Some text) now left a b k line more e s n so_far read h =
+    let next = subst (λ o. IsNextLine o line more left) s.known n in
+    let d = going (read_so_far a) so_far in
+    let at : e.line ≡ a.lines = fault_line a.lines (with_line d.0 (words_of line)) e (sym (ap (λ r. with_next r a.lines line) d.1) ∙ sym read ∙ refusal (read_so_far b) e h) in
+    let whole : lines_of text ≡ s.lines ++ line ∷ others more next.0 = s.whole ∙ ap (λ x. s.lines ++ x) next.2 in
+    let there : slice_get (lines_of text) e.line ≡ Some line = ap₂ slice_get whole (at ∙ s.read.1) ∙ after_front s.lines (others more next.0) line in
+    sym (ap (λ o. word_in o e.word) there)

@@ -1,9 +1,9 @@
 -- A quarter that is read line by line.
-use Rattle.std.specs.Prelude.{◌≡◌, ℕ, ◌<◌, List, [], ◌∷◌, ◌++◌, length, Ok, Err, Result}
+use Rattle.std.specs.Prelude.{◌≡◌, ℕ, ◌<◌, List, [], ◌∷◌, ◌++◌, length, slice_get, Ok, Err, Result}
 use Rattle.std.specs.Option.{option_map_or}
 use Rattle.units.specs.Chains.{result_and_then}
 use Rattle.quarter_text.specs.Drafts.{blank, finished, in_line, quarter_of_lines, with_line, with_lines}
-use Rattle.quarter_text.specs.Words.{words_of}
+use Rattle.quarter_text.specs.Words.{word_of, words_of}
 use Rattle.quarter_text.specs.declared.draft.Draft.{Draft}
 use Rattle.quarter_text.specs.declared.fault.TextFault.{TextFault}
 use Rattle.quarter_text.specs.declared.quarter.TextQuarter.{TextQuarter}
@@ -37,3 +37,7 @@ GoesOn r line next = (ls : List (List ℕ)) → HasRead r ls → length ls < MOS
 -- whatever lines a reader was given, this is the quarter of them
 abbrev pub TellsItsLines : TextReader → Result TextQuarter TextFault → Type 0
 TellsItsLines r quarter = (ls : List (List ℕ)) → HasRead r ls → quarter ≡ quarter_of_lines ls
+
+-- a line has the very word at which a fault of a text stands, or has none where the text has none there
+abbrev pub HasWordOf : List ℕ → List ℕ → TextFault → Type 0
+HasWordOf line text fault = slice_get (words_of line) fault.word ≡ word_of text fault.line fault.word

@@ -1,8 +1,9 @@
 // Reading a quarter from an input, of which a line at a time is held.
-ghost use Rattle.std.specs.Prelude.{◌≡◌, IfOk, IfSome};
+ghost use Rattle.std.specs.Prelude.{◌≡◌, IfErr, IfOk, IfSome};
 ghost use Rattle.std.specs.Io.BufRead.{ends_with_byte, strip_last};
 ghost use Rattle.quarter_text.specs.Drafts.{quarter_of};
 ghost use Rattle.quarter_text.specs.Marks.{line_end};
+ghost use Rattle.quarter_text.specs.Readers.{HasWordOf};
 ghost use Rattle.quarter_text.specs.Steps.{IsNextLine};
 
 use crate::fault::TextFault;
@@ -38,6 +39,7 @@ pub fn read_quarter_from<B: BufRead>(
     input: &mut B,
     line: &mut Vec<u8>,
 ) -> io::Result<Result<TextQuarter, TextFault>>
+    ensures refused_line { IfOk result (λ quarter. IfErr quarter (λ fault. IfSome (B.remaining input.old) (λ text. HasWordOf line.new.items text fault))) }
     ensures quarter_of_all { IfOk result (λ quarter. IfSome (B.remaining input.old) (λ text. quarter ≡ quarter_of text)) }
 {
     let mut reader = TextReader::new();
