@@ -123,7 +123,7 @@ hand_refused None now left a b k line more e s n so_far read h = tt
 hand_refused (Some text) now left a b k line more e s n so_far read h =
     let next = subst (λ o. IsNextLine o line more left) s.known n in
     let d = going (read_so_far a) so_far in
-    let at : e.line ≡ a.lines = fault_line a.lines (with_line d.0 (words_of line)) e (sym (ap (λ r. with_next r a.lines line) d.1) ∙ sym read ∙ refusal (read_so_far b) e h) in
+    let at : e.line ≡ a.lines = fault_line a.lines (with_line a.lines d.0 (words_of line)) e (sym (ap (λ r. with_next r a.lines line) d.1) ∙ sym read ∙ refusal (read_so_far b) e h) in
     let whole : lines_of text ≡ s.lines ++ line ∷ others more next.0 = s.whole ∙ ap (λ x. s.lines ++ x) next.2 in
     let there : slice_get (lines_of text) e.line ≡ Some line = ap₂ slice_get whole (at ∙ s.read.1) ∙ after_front s.lines (others more next.0) line in
     sym (ap (λ o. word_in o e.word) there)
