@@ -139,6 +139,21 @@ fn of_energy(rt: HostRuntime) -> Result<(), Fail> {
             "0-10 122.222 MWh - -",
             "`122.222` MWh is 9999981.818.. kW in each of slots 0 to 10, no whole number: the nearest that can be written is 122.221 MWh",
         ),
+    ];
+    for (line, message) in cases {
+        let text = with_head(rt.alloc(), line)?;
+        let said = printed(rt.alloc(), text.as_bytes())?;
+        assert_eq!(rt;
+            said.as_str(),
+            format!(in rt.alloc(); "line 3: {message}")?.as_str()
+        );
+    }
+    Ok(())
+}
+
+#[test]
+fn of_energy_out_of_bounds(rt: HostRuntime) -> Result<(), Fail> {
+    let cases = [
         (
             "down 2500.001 MWh - -",
             "`2500.001` MWh is 10000004 kW in slot 227, out of bounds: a slot's demand is from -10000000 to 10000000 kW, and the nearest that can be written is 2500 MWh",
@@ -186,6 +201,18 @@ fn of_hints(rt: HostRuntime) -> Result<(), Fail> {
         ),
         ("7 mwh - -", "or unreported, found `mwh`"),
         ("7 0.0001 MWh - -", "or unreported, found `0.0001`"),
+    ];
+    for (line, message) in cases {
+        let text = with_head(rt.alloc(), line)?;
+        let said = printed(rt.alloc(), text.as_bytes())?;
+        assert!(rt; said.ends_with(message), "{said}");
+    }
+    Ok(())
+}
+
+#[test]
+fn of_hints_on_decimals(rt: HostRuntime) -> Result<(), Fail> {
+    let cases = [
         (
             "7 12,5 MWh - -",
             "or unreported, found `12,5` (decimals are written with a point)",

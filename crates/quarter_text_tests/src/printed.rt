@@ -78,6 +78,23 @@ fn others(rt: HostRuntime) -> Result<(), Fail> {
             "others unreported\n0-9 5 - -\n10-11 0 - -\n",
             "others unreported\n0-9 5 - -\n10-11 0 - -\n",
         ),
+    ];
+    for (lines, again) in cases {
+        let text = with_head(rt.alloc(), lines)?;
+        let shown = printed(rt.alloc(), text.as_bytes())?;
+        let wanted = with_head(rt.alloc(), again)?;
+        assert_eq!(rt; shown.as_str(), wanted.as_str());
+        assert_eq!(rt;
+            printed(rt.alloc(), wanted.as_bytes())?.as_str(),
+            wanted.as_str()
+        );
+    }
+    Ok(())
+}
+
+#[test]
+fn others_are_printed_where_that_is_shorter(rt: HostRuntime) -> Result<(), Fail> {
+    let cases = [
         (
             "others unreported\n0-9 0 - -\ndown 0 - -\n",
             "10-224 unreported\nscheduled unreported\nup unreported\n",
