@@ -54,6 +54,12 @@ leads_line : (l : List ℕ) (d e : Draft) (g : ℕ → By → By) → inline l �
 leads_line l d e g p h n f u =
     (n + 1, g n f, ap (λ x. with_lines n (by_lines d f) (lines_of x)) (append_assoc l (10 ∷ []) u) ∙ ap (with_lines n (by_lines d f)) (line_first l u p) ∙ rw (h n f) refl)
 
+-- a whole text leads there
+leads_whole : (t : List ℕ) (d e : Draft) (f : By) → Leads t d e → (g : By) × (with_lines 0 (by_lines d f) (lines_of t) ≡ Ok (by_lines e g))
+leads_whole t d e f p =
+    let last = p 0 f [] in
+    (last.1, ap (λ x. with_lines 0 (by_lines d f) (lines_of x)) (sym (append-nil t)) ∙ last.2)
+
 -- THE HEAD
 
 abbrev netted : ZoneNet → Draft
@@ -227,11 +233,10 @@ reads_back m =
     let q : TextQuarter = record { zone_net = m.zone; avoided = m.avoided; others = unwrap_or (said_if t) idle; named = s.named } in
     let leads = leads_both (head_text m.zone.kw m.avoided o) (lines_to o m.slots SLOTS) blank (headed m.zone m.avoided t) (slotted m.zone m.avoided t s.named) (head_leads m.zone m.avoided t) s.leads in
     let text : List ℕ = text_with o m in
-    let last = leads 0 (replicate SLOTS 0, 0) [] in
-    let read : with_lines 0 blank (lines_of text) ≡ Ok (by_lines (slotted m.zone m.avoided t s.named) last.1) = ap (λ x. with_lines 0 blank (lines_of x)) (sym (append-nil text)) ∙ last.2 in
+    let read = leads_whole text blank (slotted m.zone m.avoided t s.named) (replicate SLOTS 0, 0) leads in
     record {
       quarter = q;
-      read = ap (λ r. result_and_then r (λ d. finished (length (lines_of text)) d.named d.others d.zone_net d.avoided)) read;
+      read = ap (λ r. result_and_then r (λ d. finished (length (lines_of text)) d.named d.others d.zone_net d.avoided)) read.1;
       alike = record {
         slots = λ k l. ap (λ x. unwrap_or (get_or s.named k None) x) (others_again t) ∙ ap (λ x. unwrap_or x o) (s.marked.before k (omega (arith, l, last_ends m.slots))) ∙ told_again o (m.slots k);
         zones = refl;

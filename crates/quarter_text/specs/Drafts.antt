@@ -23,7 +23,7 @@ use Rattle.quarter_text.specs.declared.quarter.TextQuarter.{TextQuarter}
 abbrev pub blank : Draft
 blank = record { zone_net = None; avoided = NotYetSaid; others = None; line_of_others = 0; named = replicate SLOTS None; lines = replicate SLOTS 0 }
 
--- the n slots from the first on are told so, unless one of them was named before, by its line
+-- the n slots from the first on are told so; the first of them that was named before is refused, with the line that named it
 abbrev pub name_slots : List (Option Slot) → List ℕ → ℕ → ℕ → Slot → ReadOrFault (List (Option Slot))
 name_slots named lines first zero s = Ok named
 name_slots named lines first (suc n) s =
@@ -39,14 +39,14 @@ name_lines lines first (suc n) line = slice_set (name_lines lines first n line) 
 abbrev pub with_slots : Draft → List (Option Slot) → List ℕ → Draft
 with_slots d l f = record { zone_net = d.zone_net; avoided = d.avoided; others = d.others; line_of_others = d.line_of_others; named = l; lines = f }
 
--- a draft after a line of slots, the k-th of the text, counted from 0
+-- a draft after the k-th line of the text, counted from 0, which is of slots
 abbrev pub with_range : ℕ → Draft → Words → Range → ReadOrFault Draft
 with_range k d ws r =
     result_and_then (told_by ws r)
     (λ told. result_and_then (name_slots d.named d.lines r.first (r.last + 1 - r.first) told)
     (λ named. Ok (with_slots d named (name_lines d.lines r.first (r.last + 1 - r.first) k))))
 
--- a draft after the k-th line says what the slots are that no line names, which no line before it said
+-- a draft after the k-th line, which says what the slots are that no line names; a second such line is refused, with the first
 abbrev pub with_others : ℕ → Draft → Slot → ReadOrFault Draft
 with_others k d s =
     if is_some d.others then at_word 0 (OthersTwice d.line_of_others)

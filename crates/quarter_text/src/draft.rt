@@ -27,11 +27,11 @@ pub(crate) struct Draft {
     /// The line that says it.
     line_of_others: usize,
     named: [Option<Slot>; SLOTS],
-    /// The line that names each slot that is named.
+    /// Of each slot that is named, the line that names it.
     lines: [usize; SLOTS],
 }
 
-// The slots of a range are told so, unless one of them was named before, by the line that stands in `lines`.
+// The slots of a range are told so, unless one of them was named before, by its line in `lines`.
 #[tactic(auto, using(crate::proofs::Named::named_twice))]
 fn name_slots(
     named: &mut [Option<Slot>; SLOTS],
