@@ -25,7 +25,7 @@ pub struct Manual<'a> {
 
 /// How the program is called.
 #[derive(Clone, Copy)]
-struct Usage<'a>(Manual<'a>);
+pub(crate) struct Usage<'a>(pub(crate) Manual<'a>);
 
 impl fmt::Display for Usage<'_> {
     fn fmt<W: fmt::Write>(&self, f: &mut fmt::Formatter<W>) -> fmt::Result {

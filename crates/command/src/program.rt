@@ -4,7 +4,7 @@ ghost use Rattle.std.specs.Process.{exit_status};
 ghost use Rattle.command.specs.Statuses.{IsStatus, answer_status, failed_status, status_of};
 
 use crate::failure::Failure;
-use crate::manual::{Help, Manual, Misused, Version};
+use crate::manual::{Help, Manual, Misused, Usage, Version};
 use crate::request::{Misuse, Options, Request, request_of};
 use std::fmt::Display;
 use std::io::Read;
@@ -151,10 +151,24 @@ fn answered<R: Runtime + AllocGlobal, P: Program>(
         None => program.answer(rt, rt.reader(), options.strict),
         Some(path) => match fs::open(rt, path) {
             Ok(file) => program.answer(rt, file, options.strict),
-            Err(error) => Err(Failure::Input(error)),
+            Err(error) => return unopened(rt, program.manual(), path, error),
         },
     };
     ended(rt, program.manual().name, file, answer)
+}
+
+// A file that can't be opened is named with the usage.
+fn unopened<R: Runtime + AllocGlobal>(
+    rt: &R,
+    manual: Manual<'_>,
+    path: &str,
+    error: io::Error,
+) -> ExitCode
+    ensures { exit_status result ≡ failed_status }
+{
+    let status = failed(rt, manual.name, Some(path), Failure::Input(error));
+    let _ = eprintln!(rt; "{}", Usage(manual));
+    status
 }
 
 fn failed<R: Runtime + AllocGlobal>(
