@@ -2,7 +2,7 @@
 use Rattle.std.proofs.Common.{◌≡◌, ℕ, ◌+◌, ◌<◌, ◌≤◌, Ok, Bool, true, List, map, drop, length, Some, Option, sym, subst, String, Global, slice_index_or}
 use Rattle.std.proofs.lemmas.List.{at_drop_all, at_drop_more}
 use Rattle.std.specs.String.{string_bytes}
-use Rattle.command.specs.Requests.{answer, by_word, reading, word_of}
+use Rattle.command.specs.Requests.{answer, by_word, input_file, reading, word_of}
 use Rattle.command.specs.declared.request.Takes.{Takes}
 use Rattle.command.specs.declared.request.Word.{Word}
 
@@ -24,6 +24,6 @@ read_on takes file strict ws i x w k h e f g =
     subst (After takes file strict ws i w) (sym g) b
 
 pub all_read : (takes : Takes) (file : Option (List ℕ)) (strict : Bool) (ws : List (String Global)) (i : ℕ) → length ws ≤ i
-    → reading takes file strict (map string_bytes (drop i ws)) ≡ Ok (answer file strict)
+    → reading takes file strict (map string_bytes (drop i ws)) ≡ Ok (answer (input_file file) strict)
 unfolding reading
 all_read takes file strict ws i h = at_drop_all (λ l. reading takes file strict (map string_bytes l)) ws i h

@@ -54,9 +54,14 @@ by_word Strict w file stricter named = stricter
 by_word Unknown w file stricter named = Err (unknown_argument w)
 by_word File w file stricter named = if is_some file then Err (second_file w) else named
 
+-- the file to be read, if one is named; `-` is standard input
+abbrev pub input_file : Option (List ℕ) → Option (List ℕ)
+input_file None = None
+input_file (Some w) = if bytes_eq w (codes "-") then None else Some w
+
 -- what the words ask for, from left to right, where a file and strictness were asked for before them
 unfoldable pub reading : Takes → Option (List ℕ) → Bool → List (List ℕ) → Result Asked Misused
-reading takes file strict [] = Ok (answer file strict)
+reading takes file strict [] = Ok (answer (input_file file) strict)
 reading takes file strict (w ∷ ws) = by_word (word_of takes w) w file (reading takes file true ws) (reading takes (Some w) strict ws)
 
 -- what all words ask for

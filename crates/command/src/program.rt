@@ -5,7 +5,7 @@ ghost use Rattle.command.specs.Statuses.{IsStatus, answer_status, failed_status,
 
 use crate::failure::Failure;
 use crate::manual::{Help, Manual, Misused, Usage, Version};
-use crate::request::{Misuse, Options, Request, request_of};
+use crate::request::{Misuse, Options, Request, after_name, request_of};
 use std::fmt::Display;
 use std::io::Read;
 use std::process::ExitCode;
@@ -56,7 +56,7 @@ pub fn run<R: Runtime + AllocGlobal, P: Program>(rt: &R, program: &P) -> ExitCod
         Ok(words) => words,
         Err(error) => return failed(rt, manual.name, None, Failure::Arguments(error)),
     };
-    match request_of(words.as_slice(), manual.takes) {
+    match request_of(after_name(words.as_slice()), manual.takes) {
         Ok(Request::Answer(options)) => answered(rt, program, options),
         other => said(rt, manual, other),
     }
@@ -71,7 +71,7 @@ pub fn ended_by_words<R: Runtime + AllocGlobal>(rt: &R, manual: Manual<'_>) -> O
         Ok(words) => words,
         Err(error) => return Some(failed(rt, manual.name, None, Failure::Arguments(error))),
     };
-    match request_of(words.as_slice(), manual.takes) {
+    match request_of(after_name(words.as_slice()), manual.takes) {
         Ok(Request::Answer(_)) => None,
         other => Some(said(rt, manual, other)),
     }
@@ -121,10 +121,10 @@ fn said<R: Runtime + AllocGlobal>(
     }
 }
 
-// The words after the program's name.
+// The program's name and the words after it.
 fn words<R: Runtime + AllocGlobal>(rt: &R) -> io::Result<Vec<String>> {
     let mut words = Vec::new(rt.alloc());
-    for word in env::args(rt)?.skip(1) {
+    for word in env::args(rt)? {
         words.push(word)?;
     }
     Ok(words)
@@ -146,15 +146,14 @@ fn answered<R: Runtime + AllocGlobal, P: Program>(
 ) -> ExitCode
     ensures { IsStatus (exit_status result) }
 {
-    let file = options.file.filter(|file| *file != "-");
-    let answer = match file {
+    let answer = match options.file {
         None => program.answer(rt, rt.reader(), options.strict),
         Some(path) => match fs::open(rt, path) {
             Ok(file) => program.answer(rt, file, options.strict),
             Err(error) => return unopened(rt, program.manual(), path, error),
         },
     };
-    ended(rt, program.manual().name, file, answer)
+    ended(rt, program.manual().name, options.file, answer)
 }
 
 // A file that can't be opened is named with the usage.

@@ -1,7 +1,8 @@
 // What the words after a program's name ask for.
-ghost use Rattle.std.specs.Prelude.{◌≡◌, map};
+ghost use Rattle.std.specs.Prelude.{◌≡◌, drop, map};
+ghost use Rattle.std.specs.Option.{option_map};
 ghost use Rattle.std.specs.String.{string_bytes};
-ghost use Rattle.command.specs.Requests.{asked, begins_as_argument, request_of, word_of};
+ghost use Rattle.command.specs.Requests.{asked, begins_as_argument, input_file, request_of, word_of};
 
 /// What a program is asked to do.
 #[derive(Clone, Copy)]
@@ -17,7 +18,7 @@ pub enum Request<'a> {
 /// What is given for an answer.
 #[derive(Clone, Copy)]
 pub struct Options<'a> {
-    /// The input file; without one, or with `-`, it is standard input.
+    /// The input file; without one it is standard input.
     pub file: Option<&'a str>,
     /// `--strict`.
     pub strict: bool,
@@ -69,6 +70,26 @@ fn begins_as_argument(word: &[u8]) -> bool
     matches!(word, [b'-', _, ..])
 }
 
+// The file to be read; `-` is standard input.
+fn input_file(named: Option<&str>) -> Option<&str>
+    ensures { option_map (λ f. f.now) result ≡ input_file (option_map (λ f. f.now) named.entry) }
+{
+    match named {
+        Some("-") | None => None,
+        Some(path) => Some(path),
+    }
+}
+
+/// The words after the program's name, which is the first of all.
+pub(crate) fn after_name(words: &[String]) -> &[String]
+    ensures { result.now ≡ drop 1 words.now }
+{
+    match words {
+        [_, rest @ ..] => rest,
+        [] => words,
+    }
+}
+
 /// What the words ask for, from left to right: `--help` and `--version` end the reading, and so does the first word
 /// that is none of the program's.
 pub fn request_of(words: &[String], takes: Takes) -> Result<Request<'_>, Misuse<'_>>
@@ -89,5 +110,8 @@ pub fn request_of(words: &[String], takes: Takes) -> Result<Request<'_>, Misuse<
             Word::Strict => options.strict = true,
         }
     }
-    Ok(Request::Answer(options))
+    Ok(Request::Answer(Options {
+        file: input_file(options.file),
+        strict: options.strict,
+    }))
 }
