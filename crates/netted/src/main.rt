@@ -22,7 +22,7 @@ impl Program for Netted {
             },
             reads: "a packed sheet",
             writes: "the packed sheet with the prices filled in; a refused sheet is named on standard error, by !, the number and the place of its refusal",
-            example: "netted three-levels.sheet | quarter",
+            example: "pack examples/netted-demand.quarter | netted | quarter",
         }
     }
 
