@@ -1,5 +1,5 @@
 // What is said of texts that are refused: one for each problem, and for each part that a line should have.
-use crate::texts::{printed, with_head};
+use crate::texts::{printed, printed_of_lines};
 use std::test::Fail;
 
 #[test]
@@ -69,8 +69,7 @@ fn of_expected_words(rt: HostRuntime) -> Result<(), Fail> {
         ("others", "expected `unreported`, found the end of the line"),
     ];
     for (line, message) in cases {
-        let text = with_head(rt.alloc(), line)?;
-        let said = printed(rt.alloc(), text.as_bytes())?;
+        let said = printed_of_lines(rt.alloc(), line)?;
         assert_eq!(rt;
             said.as_str(),
             format!(in rt.alloc(); "line 3: {message}")?.as_str()
@@ -109,8 +108,7 @@ fn of_other_problems(rt: HostRuntime) -> Result<(), Fail> {
         ),
     ];
     for (lines, message) in cases {
-        let text = with_head(rt.alloc(), lines)?;
-        let said = printed(rt.alloc(), text.as_bytes())?;
+        let said = printed_of_lines(rt.alloc(), lines)?;
         assert!(rt; said.ends_with(message), "{said}");
     }
     Ok(())
@@ -141,8 +139,7 @@ fn of_energy(rt: HostRuntime) -> Result<(), Fail> {
         ),
     ];
     for (line, message) in cases {
-        let text = with_head(rt.alloc(), line)?;
-        let said = printed(rt.alloc(), text.as_bytes())?;
+        let said = printed_of_lines(rt.alloc(), line)?;
         assert_eq!(rt;
             said.as_str(),
             format!(in rt.alloc(); "line 3: {message}")?.as_str()
@@ -168,8 +165,7 @@ fn of_energy_out_of_bounds(rt: HostRuntime) -> Result<(), Fail> {
         ),
     ];
     for (line, message) in cases {
-        let text = with_head(rt.alloc(), line)?;
-        let said = printed(rt.alloc(), text.as_bytes())?;
+        let said = printed_of_lines(rt.alloc(), line)?;
         assert_eq!(rt;
             said.as_str(),
             format!(in rt.alloc(); "line 3: {message}")?.as_str()
@@ -203,8 +199,7 @@ fn of_hints(rt: HostRuntime) -> Result<(), Fail> {
         ("7 0.0001 MWh - -", "or unreported, found `0.0001`"),
     ];
     for (line, message) in cases {
-        let text = with_head(rt.alloc(), line)?;
-        let said = printed(rt.alloc(), text.as_bytes())?;
+        let said = printed_of_lines(rt.alloc(), line)?;
         assert!(rt; said.ends_with(message), "{said}");
     }
     Ok(())
@@ -230,8 +225,7 @@ fn of_hints_on_decimals(rt: HostRuntime) -> Result<(), Fail> {
         ("7 5 -", "or -, found the end of the line"),
     ];
     for (line, message) in cases {
-        let text = with_head(rt.alloc(), line)?;
-        let said = printed(rt.alloc(), text.as_bytes())?;
+        let said = printed_of_lines(rt.alloc(), line)?;
         assert!(rt; said.ends_with(message), "{said}");
     }
     Ok(())

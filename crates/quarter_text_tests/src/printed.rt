@@ -1,6 +1,6 @@
 // Texts as they are printed, and quarters there and back.
 use crate::generator::Generator;
-use crate::texts::{printed, sheet_of, with_head};
+use crate::texts::{printed, printed_of_lines, sheet_of, with_head};
 use quarter_text::quarter_text;
 use sheet::Sheet;
 use source::Table;
@@ -57,8 +57,7 @@ fn runs(rt: HostRuntime) -> Result<(), Fail> {
         ("7 -0 -0.05 -0\n", "7 0 -0.05 0.00\n"),
     ];
     for (lines, again) in cases {
-        let text = with_head(rt.alloc(), lines)?;
-        let shown = printed(rt.alloc(), text.as_bytes())?;
+        let shown = printed_of_lines(rt.alloc(), lines)?;
         let wanted = with_head(rt.alloc(), again)?;
         assert_eq!(rt; shown.as_str(), wanted.as_str());
     }
@@ -80,8 +79,7 @@ fn others(rt: HostRuntime) -> Result<(), Fail> {
         ),
     ];
     for (lines, again) in cases {
-        let text = with_head(rt.alloc(), lines)?;
-        let shown = printed(rt.alloc(), text.as_bytes())?;
+        let shown = printed_of_lines(rt.alloc(), lines)?;
         let wanted = with_head(rt.alloc(), again)?;
         assert_eq!(rt; shown.as_str(), wanted.as_str());
         assert_eq!(rt;
@@ -118,8 +116,7 @@ fn others_are_printed_where_that_is_shorter(rt: HostRuntime) -> Result<(), Fail>
         ("others unreported\n0-227 0 - -\n", ""),
     ];
     for (lines, again) in cases {
-        let text = with_head(rt.alloc(), lines)?;
-        let shown = printed(rt.alloc(), text.as_bytes())?;
+        let shown = printed_of_lines(rt.alloc(), lines)?;
         let wanted = with_head(rt.alloc(), again)?;
         assert_eq!(rt; shown.as_str(), wanted.as_str());
         assert_eq!(rt;

@@ -56,3 +56,9 @@ pub(crate) fn printed(heap: Global, text: &[u8]) -> Result<String, AllocError> {
         Err(fault) => message(heap, text, fault),
     }
 }
+
+/// The same of these lines after a head.
+pub(crate) fn printed_of_lines(heap: Global, lines: &str) -> Result<String, AllocError> {
+    let text = with_head(heap, lines)?;
+    printed(heap, text.as_bytes())
+}
