@@ -1,17 +1,18 @@
 -- The bounds of a quote follow from the laws and from the rounding.
-use Rattle.std.proofs.Common.{◌≡◌, ℕ, ◌+◌, ◌*◌, ◌≤◌, ℤ, pos, ◌+ℤ◌, ◌-ℤ◌, ◌*ℤ◌, ◌≤ℤ◌, ap, arith}
+use Rattle.std.proofs.Common.{◌≡◌, ℕ, ◌+◌, ◌*◌, ◌≤◌, true, Some, None, Option, is_some, refl, ℤ, pos, ◌+ℤ◌, ◌-ℤ◌, ◌*ℤ◌, ◌≤ℤ◌, ap, arith}
 use borrow.Author.Differences.{ints, up, down}
 use Rattle.figures.specs.Components.{side_in, turnover, volume}
 use Rattle.figures.specs.Spans.{lowest_cents, highest_cents}
 use Rattle.figures.specs.declared.quarter_figures.Figures.{Figures}
 use Rattle.figures.specs.declared.side.Side.{Side}
+use Rattle.figures.specs.declared.span.Span.{Span}
 use Rattle.source.specs.declared.direction.Direction.{Direction}
 use Rattle.source.specs.declared.direction.Direction.TheVariants.{Up, Down}
 use Rattle.units.specs.Exact.{Exact}
 use Rattle.units.specs.Rounding.{Nearest}
 use Rattle.units.specs.declared.price.Price.{Price}
-use Rattle.pricing.specs.Bounds.{IsBoundedIn, HalfCentFromMean}
-use Rattle.pricing.specs.FourLaws.{IsNoMoreExtreme, KeepsLaws}
+use Rattle.pricing.specs.Bounds.{IsBoundedIn, IsBoundedTo, HalfCentFromMean}
+use Rattle.pricing.specs.FourLaws.{IsFromFormedTo, IsNoLessExtremeThanMean, IsNoMoreExtreme, KeepsLaws, outer_span}
 use Rattle.pricing.specs.Outcomes.{Outcome, directed}
 use Rattle.pricing.specs.Quotes.{quoted_direction}
 use Rattle.pricing.specs.declared.ruling.Net.{Net}
@@ -34,7 +35,19 @@ half_cent_lem : (d : Direction) (s : Side) (q : Exact) (p : ℤ) → 1 ≤ q.d �
 half_cent_lem Up s q p some near b = cross (turnover s) q.n ((p *ℤ pos 2) +ℤ pos 1) (volume s) q.d 2 some b (near_above q.n p q.d near)
 half_cent_lem Down s q p some near b = cross ((p *ℤ pos 2) -ℤ pos 1) q.n (turnover s) 2 q.d (volume s) some (near_below q.n p q.d near) b
 
+-- where a price is formed out to v, it is formed
+formed_within : (d : Direction) (v : Option Price) (f : Option Span) → is_some (outer_span d v f) ≡ true → is_some f ≡ true
+formed_within d None f h = h
+formed_within d (Some v) None h = h
+formed_within d (Some v) (Some s) h = refl
+
+-- a price that is rounded keeps the bounds of the exact one, as far as v
+pub bounded_to : (v : Option Price) (f : Figures) (o : Outcome) (d : Direction) (q : Exact) (p : Price) → IsFromFormedTo v f o → IsNoLessExtremeThanMean f o → directed d q ≡ o → Nearest q.n q.d p.cents
+    → ((low high : ℤ) → (low *ℤ pos q.d) ≤ℤ q.n → q.n ≤ℤ (high *ℤ pos q.d) → (low ≤ℤ p.cents) × (p.cents ≤ℤ high)) → IsBoundedTo v (quoted_direction d) f p
+bounded_to v f o d q p within mean e near keeps =
+    let outer = outer_span d v (side_in d f).formed in
+    grind (arith, within, mean, formed_within d v (side_in d f).formed, half_cent_lem d (side_in d f) q p.cents, keeps (lowest_cents outer) (highest_cents outer))
+
 pub quote_bounded : (net : Net) (f : Figures) (o : Outcome) (d : Direction) (q : Exact) (p : Price) → KeepsLaws net f o → directed d q ≡ o → Nearest q.n q.d p.cents
     → ((low high : ℤ) → (low *ℤ pos q.d) ≤ℤ q.n → q.n ≤ℤ (high *ℤ pos q.d) → (low ≤ℤ p.cents) × (p.cents ≤ℤ high)) → IsBoundedIn (quoted_direction d) f p
-quote_bounded net f o d q p laws e near keeps =
-    grind (arith, laws.formed, laws.mean, half_cent_lem d (side_in d f) q p.cents, keeps (lowest_cents (side_in d f).formed) (highest_cents (side_in d f).formed))
+quote_bounded net f o d q p laws e near keeps = bounded_to f.avoided f o d q p laws.formed laws.mean e near keeps

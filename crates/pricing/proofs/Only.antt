@@ -12,6 +12,7 @@ use Rattle.pricing.specs.FiveQuotes.{AreQuotesOfSource, AreQuotesUnlessFault}
 use Rattle.pricing.specs.Outcomes.{Outcome, avoided, directed}
 use Rattle.pricing.specs.Quotes.{Answer, IsQuote, IsQuoteOfFigures, IsQuoteOfSource}
 use Rattle.pricing.specs.declared.codes.FiveQuotes.{FiveQuotes}
+use Rattle.pricing.specs.declared.codes.Terms.{Terms}
 
 -- the evidence that figures carry is a proposition
 figures_same : (f g : Figures) → f.local_net ≡ g.local_net → f.zone_net ≡ g.zone_net → f.avoided ≡ g.avoided → f.up ≡ g.up → f.down ≡ g.down → f ≡ g
@@ -46,8 +47,8 @@ both_reported m code ruling a b s t = grind (arith, only_figures m s.figures t.f
 pub only_quote : (m : Meaning) (code : ℕ) (ruling : Figures → Outcome) (a b : Answer) → IsQuoteOfSource m code ruling a → IsQuoteOfSource m code ruling b → a ≡ b
 only_quote m code ruling a b s t = grind (arith, only_first m.slots, clash m.slots 228, both_reported m code ruling a b)
 
-pub only_five : (m : Meaning) (a b : FiveQuotes) → AreQuotesOfSource m a → AreQuotesOfSource m b → a ≡ b
-only_five m a b p q =
+pub only_five : (t : Terms) (m : Meaning) (a b : FiveQuotes) → AreQuotesOfSource t m a → AreQuotesOfSource t m b → a ≡ b
+only_five t m a b p q =
     grind (
       arith,
       only_quote m _ _ a.weighted_average b.weighted_average p.weighted_average q.weighted_average,
@@ -57,8 +58,8 @@ only_five m a b p q =
       only_quote m _ _ a.finnish b.finnish p.finnish q.finnish,
     )
 
-pub only_unless_fault : {F : Type 0} (r : Result (Unit {0}) F) (m : Meaning) (a b : Result FiveQuotes F) → AreQuotesUnlessFault r m a → AreQuotesUnlessFault r m b → a ≡ b
-only_unless_fault (Err f) m a b p q = cc
-only_unless_fault (Ok u) m (Ok a) (Ok b) p q = grind (arith, only_five m a b p q)
-only_unless_fault (Ok u) m (Ok a) (Err f) p q = absurd q
-only_unless_fault (Ok u) m (Err e) b p q = absurd p
+pub only_unless_fault : {F : Type 0} (r : Result (Unit {0}) F) (t : Terms) (m : Meaning) (a b : Result FiveQuotes F) → AreQuotesUnlessFault r t m a → AreQuotesUnlessFault r t m b → a ≡ b
+only_unless_fault (Err f) t m a b p q = cc
+only_unless_fault (Ok u) t m (Ok a) (Ok b) p q = grind (arith, only_five t m a b p q)
+only_unless_fault (Ok u) t m (Ok a) (Err f) p q = absurd q
+only_unless_fault (Ok u) t m (Err e) b p q = absurd p

@@ -1,5 +1,5 @@
 -- Between which prices a quote lies.
-use Rattle.std.specs.Prelude.{◌≡◌, ℤ, pos, ◌+ℤ◌, ◌-ℤ◌, ◌*ℤ◌, ◌≤ℤ◌, IfOk, IsSome, Some}
+use Rattle.std.specs.Prelude.{◌≡◌, ℤ, pos, ◌+ℤ◌, ◌-ℤ◌, ◌*ℤ◌, ◌≤ℤ◌, IfOk, IsSome, Some, Option}
 use Rattle.figures.specs.Components.{turnover, volume}
 use Rattle.figures.specs.Gathering.{AreFiguresOf}
 use Rattle.figures.specs.Spans.{lowest_cents, highest_cents}
@@ -9,6 +9,7 @@ use Rattle.source.specs.Meanings.{Meaning}
 use Rattle.source.specs.declared.direction.Direction.{Direction}
 use Rattle.source.specs.declared.direction.Direction.TheVariants as dir
 use Rattle.units.specs.declared.price.Price.{Price}
+use Rattle.pricing.specs.FourLaws.{outer_span}
 use Rattle.pricing.specs.Quotes.{Answer}
 use Rattle.pricing.specs.declared.quote.Quote.{Quote}
 use Rattle.pricing.specs.declared.quote.QuoteDirection.{QuoteDirection}
@@ -19,29 +20,33 @@ abbrev pub HalfCentFromMean : Direction → Side → ℤ → Type 0
 HalfCentFromMean dir.Up s p = (turnover s *ℤ pos 2) ≤ℤ (((p *ℤ pos 2) +ℤ pos 1) *ℤ pos (volume s))
 HalfCentFromMean dir.Down s p = (((p *ℤ pos 2) -ℤ pos 1) *ℤ pos (volume s)) ≤ℤ (turnover s *ℤ pos 2)
 
--- a price is formed in the direction, p cents lie between the lowest and the highest such, and are at most half a cent less extreme than the weighted mean
-pub record IsBounded (d : Direction) (s : Side) (p : ℤ) : Type 0 where
+-- a price is formed in the direction; p cents lie between the lowest and the highest such, or beyond them as far as v, where there is one; and they are at most half a cent less extreme than the weighted mean
+pub record IsBounded (d : Direction) (s : Side) (v : Option Price) (p : ℤ) : Type 0 where
   pub formed : IsSome s.formed
-  pub low : lowest_cents s.formed ≤ℤ p
-  pub high : p ≤ℤ highest_cents s.formed
+  pub low : lowest_cents (outer_span d v s.formed) ≤ℤ p
+  pub high : p ≤ℤ highest_cents (outer_span d v s.formed)
   pub mean : HalfCentFromMean d s p
 
--- a quote's price lies in the bounds of its direction; under A it is the avoided value
+-- a quote's price lies in the bounds of its direction, as far as v; under A it is the avoided value
+abbrev pub IsBoundedTo : Option Price → QuoteDirection → Figures → Price → Type 0
+IsBoundedTo v Up f p = IsBounded dir.Up f.up v p.cents
+IsBoundedTo v Down f p = IsBounded dir.Down f.down v p.cents
+IsBoundedTo v Avoided f p = f.avoided ≡ Some p
+
+-- a quote's price lies in the bounds of its direction, as far as the avoided value; under A it is that
 abbrev pub IsBoundedIn : QuoteDirection → Figures → Price → Type 0
-IsBoundedIn Up f p = IsBounded dir.Up f.up p.cents
-IsBoundedIn Down f p = IsBounded dir.Down f.down p.cents
-IsBoundedIn Avoided f p = f.avoided ≡ Some p
+IsBoundedIn d f p = IsBoundedTo f.avoided d f p
 
--- an answer for figures: where it is a quote, that lies in its bounds
-abbrev pub IsBoundedQuote : Figures → Answer → Type 0
-IsBoundedQuote f a = IfOk a (λ q. IsBoundedIn q.direction f q.price)
+-- an answer for figures: where it is a quote, that lies in its bounds, as far as v
+abbrev pub IsBoundedQuote : Option Price → Figures → Answer → Type 0
+IsBoundedQuote v f a = IfOk a (λ q. IsBoundedTo v q.direction f q.price)
 
--- a quote lies in the bounds of the figures that a source gives
-pub record IsBoundedByFigures (m : Meaning) (q : Quote) : Type 0 where
+-- a quote lies in the bounds of the figures that a source gives, as far as v
+pub record IsBoundedByFigures (v : Option Price) (m : Meaning) (q : Quote) : Type 0 where
   pub figures : Figures
   pub gives : AreFiguresOf m figures
-  pub bounded : IsBoundedIn q.direction figures q.price
+  pub bounded : IsBoundedTo v q.direction figures q.price
 
--- an answer for a source: where it is a quote, that lies in its bounds
-abbrev pub IsBoundedQuoteOfSource : Meaning → Answer → Type 0
-IsBoundedQuoteOfSource m a = IfOk a (IsBoundedByFigures m)
+-- an answer for a source: where it is a quote, that lies in its bounds, as far as v
+abbrev pub IsBoundedQuoteOfSource : Option Price → Meaning → Answer → Type 0
+IsBoundedQuoteOfSource v m a = IfOk a (IsBoundedByFigures v m)

@@ -2,4 +2,5 @@
 pub mod Reach
 pub mod Covers
 pub mod Fits
+pub mod Outer
 pub mod Lawful

@@ -1,14 +1,40 @@
-// The quotes of a quarter under codes 1 to 5.
+// The quotes of a quarter under the five rulebooks, alone or with the incentive component.
 ghost use Rattle.std.specs.Prelude.{◌≡◌};
-ghost use Rattle.pricing.specs.FiveQuotes.{AreQuotesOfSource, all_unreported};
-ghost use Rattle.pricing.specs.steps.FiveQuotes.{AreQuotesOfFigures};
+ghost use Rattle.pricing.specs.Bounds.{IsBoundedQuote};
+ghost use Rattle.pricing.specs.FiveQuotes.{AreBoundedQuotesOfSource, AreQuotesOfSource, all_unreported, beyond_formed, code_under, ruling_under};
+ghost use Rattle.pricing.specs.FourLaws.{IsFromFormed};
+ghost use Rattle.pricing.specs.Quotes.{IsQuote};
+ghost use Rattle.pricing.specs.steps.FiveQuotes.{AreBoundedQuotesOfFigures, AreQuotesOfFigures};
 ghost use Rattle.pricing.specs.declared.codes.FiveQuotes.{FiveQuotes};
 
 use crate::fault::QuoteFault;
+use crate::incentive::Incentive;
 use crate::quote::{Quote, quote_figures};
+use crate::rulebook::Rulebook;
 use crate::rulebooks::{CombinedAll, CombinedAutomatic, Finnish, MaxMin, WeightedAverage};
 use figures::{Figures, UnreportedSlot, figures_of};
 use source::PriceSource;
+
+/// Under which terms the five rulebooks are asked.
+#[derive(Clone, Copy, PartialEq, Eq)]
+pub enum Terms {
+    /// Each rulebook alone: codes 1 to 5.
+    Alone,
+    /// The incentive component over each rulebook: codes 11 to 15.
+    WithIncentive,
+}
+
+impl Terms {
+    /// The code of a rulebook under these terms.
+    pub fn code<R: Rulebook>(self) -> u16
+        ensures { result ≡ code_under self R.Rulebook.CODE }
+    {
+        match self {
+            Terms::Alone => R::CODE,
+            Terms::WithIncentive => Incentive::<R>::CODE,
+        }
+    }
+}
 
 /// The quote of each of the five rulebooks, or its refusal.
 #[derive(Clone, Copy)]
@@ -35,26 +61,42 @@ impl From<UnreportedSlot> for FiveQuotes {
     }
 }
 
-fn quotes_of(figures: &Figures) -> FiveQuotes
-    ensures quotes_of_the_figures { AreQuotesOfFigures figures.now result }
+fn quote_under<R: Rulebook + Drop>(
+    figures: &Figures,
+    rulebook: R,
+    terms: Terms,
+) -> Result<Quote, QuoteFault>
+    ensures quote_under_the_terms { IsQuote (code_under terms R.Rulebook.CODE) (ruling_under terms (R.Rulebook.ruling rulebook) figures.now) figures.now.avoided result }
+    ensures bounds_kept { IsFromFormed figures.now (R.Rulebook.ruling rulebook figures.now) → IsBoundedQuote (beyond_formed terms figures.now.avoided) figures.now result }
 {
-    FiveQuotes {
-        weighted_average: quote_figures(figures, &WeightedAverage),
-        combined_automatic: quote_figures(figures, &CombinedAutomatic),
-        combined_all: quote_figures(figures, &CombinedAll),
-        max_min: quote_figures(figures, &MaxMin),
-        finnish: quote_figures(figures, &Finnish),
+    match terms {
+        Terms::Alone => quote_figures(figures, &rulebook),
+        Terms::WithIncentive => quote_figures(figures, &Incentive { below: rulebook }),
     }
 }
 
-/// The quotes of what a source tells, over figures that are worked out once. An unreported slot is refused under each code,
-/// with 7; where the result is avoided and the avoided value absent, that code is refused with 8.
-pub fn five_quotes<S: PriceSource>(source: &S) -> FiveQuotes
-    ensures quotes_of_the_source { AreQuotesOfSource (S.PriceSource.means source.now) result }
-    ensures only_answer { (q : FiveQuotes) → AreQuotesOfSource (S.PriceSource.means source.now) q → q ≡ result }
+fn quotes_of(figures: &Figures, terms: Terms) -> FiveQuotes
+    ensures quotes_of_the_figures { AreQuotesOfFigures terms figures.now result }
+    ensures bounds_kept { AreBoundedQuotesOfFigures terms figures.now result }
+{
+    FiveQuotes {
+        weighted_average: quote_under(figures, WeightedAverage, terms),
+        combined_automatic: quote_under(figures, CombinedAutomatic, terms),
+        combined_all: quote_under(figures, CombinedAll, terms),
+        max_min: quote_under(figures, MaxMin, terms),
+        finnish: quote_under(figures, Finnish, terms),
+    }
+}
+
+/// The quotes of what a source tells under the terms, over figures that are worked out once. An unreported slot is refused
+/// under each code, with 7; where the result is avoided and the avoided value absent, that code is refused with 8.
+pub fn five_quotes<S: PriceSource>(source: &S, terms: Terms) -> FiveQuotes
+    ensures quotes_of_the_source { AreQuotesOfSource terms (S.PriceSource.means source.now) result }
+    ensures only_answer { (q : FiveQuotes) → AreQuotesOfSource terms (S.PriceSource.means source.now) q → q ≡ result }
+    ensures bounds_kept { AreBoundedQuotesOfSource terms (S.PriceSource.means source.now) result }
 {
     match figures_of(source) {
-        Ok(figures) => quotes_of(&figures),
+        Ok(figures) => quotes_of(&figures, terms),
         Err(slot) => FiveQuotes::from(slot),
     }
 }

@@ -1,9 +1,9 @@
 // The quote of a quarter under a rulebook.
-ghost use Rattle.std.specs.Prelude.{◌≡◌, [], ◌∷◌, Some};
+ghost use Rattle.std.specs.Prelude.{◌≡◌, [], ◌∷◌, Some, None};
 ghost use Rattle.figures.specs.Gathering.{AreFiguresOf};
 ghost use Rattle.figures.specs.declared.quarter_figures.Figures.{Figures};
 ghost use Rattle.pricing.specs.Bounds.{IsBoundedQuote, IsBoundedQuoteOfSource};
-ghost use Rattle.pricing.specs.FourLaws.{KeepsLaws};
+ghost use Rattle.pricing.specs.FourLaws.{IsFromFormed, KeepsLaws};
 ghost use Rattle.pricing.specs.Quotes.{Answer, IsQuote, IsQuoteOfSource, letter, quoted_direction};
 
 use crate::fault::QuoteFault;
@@ -57,7 +57,8 @@ pub fn quote_figures<R: Rulebook>(figures: &Figures, rulebook: &R) -> Result<Quo
     ensures quote_of_the_ruling { IsQuote R.Rulebook.CODE (R.Rulebook.ruling rulebook.now figures.now) figures.now.avoided result }
     ensures only_answer { (a : Answer) → IsQuote R.Rulebook.CODE (R.Rulebook.ruling rulebook.now figures.now) figures.now.avoided a → a ≡ result }
     ensures laws_kept { KeepsLaws R.Rulebook.NET figures.now (R.Rulebook.ruling rulebook.now figures.now) }
-    ensures bounds_kept { IsBoundedQuote figures.now result }
+    ensures bounds_kept { IsBoundedQuote figures.now.avoided figures.now result }
+    ensures formed_bounds_kept { IsFromFormed figures.now (R.Rulebook.ruling rulebook.now figures.now) → IsBoundedQuote None figures.now result }
 {
     let code = R::CODE;
     let Some(directed) = rulebook.decide(figures) else {
@@ -83,7 +84,8 @@ pub fn quote_source<S: PriceSource, R: Rulebook>(
     ensures quote_of_the_source { IsQuoteOfSource (S.PriceSource.means source.now) R.Rulebook.CODE (R.Rulebook.ruling rulebook.now) result }
     ensures only_answer { (a : Answer) → IsQuoteOfSource (S.PriceSource.means source.now) R.Rulebook.CODE (R.Rulebook.ruling rulebook.now) a → a ≡ result }
     ensures laws_kept { (f : Figures) → AreFiguresOf (S.PriceSource.means source.now) f → KeepsLaws R.Rulebook.NET f (R.Rulebook.ruling rulebook.now f) }
-    ensures bounds_kept { IsBoundedQuoteOfSource (S.PriceSource.means source.now) result }
+    ensures bounds_kept { IsBoundedQuoteOfSource (S.PriceSource.means source.now).avoided (S.PriceSource.means source.now) result }
+    ensures formed_bounds_kept { ((f : Figures) → AreFiguresOf (S.PriceSource.means source.now) f → IsFromFormed f (R.Rulebook.ruling rulebook.now f)) → IsBoundedQuoteOfSource None (S.PriceSource.means source.now) result }
 {
     let figures = figures_of(source)?;
     quote_figures(&figures, rulebook)

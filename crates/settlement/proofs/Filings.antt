@@ -2,7 +2,9 @@
 use Rattle.std.proofs.Common.{◌≡◌, ℕ, ℤ, ◌≤ℤ◌, Some, None, Ok, Option, sym, refl, ap, ◌∙◌, subst, arith}
 use borrow.Author.Differences.{ints}
 use Rattle.figures.specs.Gathering.{AreFiguresOf}
+use Rattle.figures.specs.Sides.{side_of}
 use Rattle.figures.specs.declared.quarter_figures.Figures.{Figures}
+use Rattle.figures.specs.declared.side.Side.{Side}
 use Rattle.pricing.proofs.Bounding.{quote_bounded}
 use Rattle.pricing.specs.Bounds.{IsBounded, IsBoundedIn}
 use Rattle.pricing.specs.FourLaws.{KeepsLaws}
@@ -60,10 +62,13 @@ bounded_by code net f (directed d x) a q laws h n =
 bounded_by code net f avoided (Some v) q laws h n = absurd (n cc)
 bounded_by code net f avoided None q laws h n = never q _ h
 
+bounded_same : (d : Direction) (s t : Side) (v w : Option Price) (p : ℤ) → t ≡ s → w ≡ v → IsBounded d t w p → IsBounded d s v p
+bounded_same d s t v w p e f b = subst (λ x. IsBounded d x v p) e (subst (λ x. IsBounded d t x p) f b)
+
 -- the same, by what the source means
 by_meaning : (m : Meaning) (f : Figures) (d : QuoteDirection) (p : Price) → AreFiguresOf m f → ((d ≡ Avoided → ⊥) → IsBoundedIn d f p) → WithinBounds d m p.cents
-by_meaning m f Up p g b = subst (λ s. IsBounded dir.Up s p.cents) g.up_is (b (λ e. let z : ◌≡◌ {A = ℕ} 0 1 = cc in omega arith))
-by_meaning m f Down p g b = subst (λ s. IsBounded dir.Down s p.cents) g.down_is (b (λ e. let z : ◌≡◌ {A = ℕ} 0 1 = cc in omega arith))
+by_meaning m f Up p g b = bounded_same dir.Up (side_of dir.Up m.slots) f.up m.avoided f.avoided p.cents g.up_is g.avoided_is (b (λ e. let z : ◌≡◌ {A = ℕ} 0 1 = cc in omega arith))
+by_meaning m f Down p g b = bounded_same dir.Down (side_of dir.Down m.slots) f.down m.avoided f.avoided p.cents g.down_is g.avoided_is (b (λ e. let z : ◌≡◌ {A = ℕ} 0 1 = cc in omega arith))
 by_meaning m f Avoided p g b = tt
 
 abbrev pub filed : Meaning → Rules → Quarter → Filing

@@ -42,10 +42,10 @@ pub record RightPrice (f : Filing) (x : Quarter) : Type 0 where
   pub gives : AreFiguresOf f.source figures
   pub stands : StandsFor (f.rules.ruling figures) f.source.avoided quote
 
--- up: at most half a cent below the weighted mean of what counts, not above the highest price formed; down mirrors it
+-- up: at most half a cent below the weighted mean of what counts, not above both the highest price formed and the avoided value; down mirrors it
 abbrev pub WithinBounds : QuoteDirection → Meaning → ℤ → Type 0
-WithinBounds Up m p = IsBounded dir.Up (side_of dir.Up m.slots) p
-WithinBounds Down m p = IsBounded dir.Down (side_of dir.Down m.slots) p
+WithinBounds Up m p = IsBounded dir.Up (side_of dir.Up m.slots) m.avoided p
+WithinBounds Down m p = IsBounded dir.Down (side_of dir.Down m.slots) m.avoided p
 WithinBounds Avoided m p = Unit {0}
 
 -- an accepted settling left its party's payments within half a cent of its latest imbalances at the standing prices
@@ -79,7 +79,7 @@ pub record Sound (h : List Event) (b : Book) : Type 0 where
   pub price_stands : (p : ℕ) → is_some (quote_in (quarter_at b p)) ≡ is_some (last_pricing h p)
   -- its direction is what the rulebook of the last one gave, and its price at most half a cent from the exact one
   pub prices : (p : ℕ) (f : Filing) → last_pricing h p ≡ Some f → RightPrice f (quarter_at b p)
-  -- the price lies between the weighted mean and the extreme of the formed prices, by what was told at the last one
+  -- the price lies between the weighted mean and the extreme of the formed prices and the avoided value, by what was told at the last one
   pub bounds : (p : ℕ) (f : Filing) (q : Quote) → last_pricing h p ≡ Some f → quote_in (quarter_at b p) ≡ Some q → WithinBounds q.direction f.source q.price.cents
   -- a party's imbalance is the latest
   pub imbalances : (p q : ℕ) → (imbalance_at b p q).kwh ≡ imbalance_after h p q

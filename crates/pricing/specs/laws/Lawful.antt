@@ -22,6 +22,7 @@ use Rattle.pricing.specs.Rulings.{PriceRule, automatic_or_manual, by_net, extrem
 use Rattle.pricing.specs.declared.ruling.Net.{Net}
 use Rattle.pricing.specs.laws.Covers.{Covers, covers_add, covers_cycles, covers_manual, covers_none, covers_quotient, no_turnover}
 use Rattle.pricing.specs.laws.Fits.{automatic_fits, counting_fits, cycles_fit, formed_fits, mean_fits, over_fits}
+use Rattle.pricing.specs.laws.Outer.{formed_or_avoided}
 use Rattle.pricing.specs.laws.Reach.{WhereExists, Positive, Tops, extreme_first, extreme_keeps, extreme_second, extreme_tops, tops_parts, tops_self}
 
 -- the price exists where something counts, comes from formed prices, and is as extreme as the weighted mean
@@ -88,9 +89,13 @@ rulebook_keeps net price lawful f =
     record {
       direction = follows z (λ d. price d (side_in d f));
       counting = heeds price lawful z f;
-      formed = from_formed price lawful z f;
+      formed = formed_or_avoided f (by_net net price f) (from_formed price lawful z f);
       mean = beyond_mean price lawful z f;
     }
+
+-- and its price lies within the formed prices alone
+pub rule_from_formed : (net : Net) (price : PriceRule) → IsLawfulRule price → (f : Figures) → IsFromFormed f (by_net net price f)
+rule_from_formed net price lawful f = from_formed price lawful (net_of net f) f
 
 -- ---- what the rules share
 pub quotient_exists : (x : ℤ) (v : ℕ) → 1 ≤ v → is_some (quotient x v) ≡ true

@@ -56,7 +56,7 @@ cross n m k d e f some h g =
     )))
     (λ l. l)
 
-reach_trans : (d : Direction) (a b c : Exact) → 1 ≤ b.d → Reach d a b → Reach d b c → Reach d a c
+pub reach_trans : (d : Direction) (a b c : Exact) → 1 ≤ b.d → Reach d a b → Reach d b c → Reach d a c
 reach_trans Up a b c some h g = cross a.n b.n c.n a.d b.d c.d some h g
 reach_trans Down a b c some h g = cross c.n b.n a.n c.d b.d a.d some g h
 

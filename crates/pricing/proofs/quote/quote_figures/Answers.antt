@@ -1,7 +1,7 @@
-use Rattle.std.proofs.Common.{arith, Ok, ap, ◌∙◌, subst}
+use Rattle.std.proofs.Common.{arith, Ok, None, ap, ◌∙◌, subst}
 use Rattle.units.specs.Exact.{exact_of}
 use Rattle.pricing.specs.Quotes.{IsQuote}
-use Rattle.pricing.proofs.Bounding.{quote_bounded}
+use Rattle.pricing.proofs.Bounding.{bounded_to, quote_bounded}
 use Rattle.pricing.proofs.Only.{only_answer}
 use Rattle.pricing.proofs.quote.quote_figures.Goals as goal
 
@@ -26,3 +26,10 @@ returns-clause-bounds_kept g c =
     let r = c.args.rulebook.now in
     let n = c.nearest_cent.ensures in
     grind (arith, quote_bounded g.R.Rulebook.NET f (g.R.Rulebook.ruling r f) c.in-Some.directed.direction (exact_of c.in-Some.directed.price) c.nearest_cent.result (g.met.R.Rulebook.keeps_laws r f) c.in-Some.ensures n.nearest n.between)
+
+pub returns-clause-formed_bounds_kept : goal.returns-clause-formed_bounds_kept
+returns-clause-formed_bounds_kept g c = λ within.
+    let f = c.args.figures.now in
+    let r = c.args.rulebook.now in
+    let n = c.nearest_cent.ensures in
+    grind (arith, bounded_to None f (g.R.Rulebook.ruling r f) c.in-Some.directed.direction (exact_of c.in-Some.directed.price) c.nearest_cent.result within (g.met.R.Rulebook.keeps_laws r f).mean c.in-Some.ensures n.nearest n.between)

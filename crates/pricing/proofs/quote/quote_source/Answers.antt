@@ -1,6 +1,6 @@
-use Rattle.std.proofs.Common.{arith}
+use Rattle.std.proofs.Common.{None, arith}
 use Rattle.pricing.proofs.Only.{only_quote}
-use Rattle.pricing.proofs.Quoting.{from_bounds, from_figures}
+use Rattle.pricing.proofs.Quoting.{from_avoided, from_bounds, from_figures}
 use Rattle.pricing.proofs.quote.quote_source.Goals as goal
 
 pub returns-in_err-figures : goal.returns-in_err-figures
@@ -20,5 +20,6 @@ returns g c =
       quote_of_the_source = quoted;
       only_answer = λ a h. only_quote m g.R.Rulebook.CODE (g.R.Rulebook.ruling r) a answer h quoted;
       laws_kept = λ f' g'. g.met.R.Rulebook.keeps_laws r f';
-      bounds_kept = from_bounds m f answer gives c.quote_figures.ensures.bounds_kept;
+      bounds_kept = from_avoided m f answer gives c.quote_figures.ensures.bounds_kept;
+      formed_bounds_kept = λ within. from_bounds None m f answer gives (c.quote_figures.ensures.formed_bounds_kept (within f gives));
     }
