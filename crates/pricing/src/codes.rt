@@ -1,10 +1,8 @@
 // The quotes of a quarter under the five rulebooks, alone or with the incentive component.
 ghost use Rattle.std.specs.Prelude.{◌≡◌};
-ghost use Rattle.pricing.specs.Bounds.{IsBoundedQuote};
-ghost use Rattle.pricing.specs.FiveQuotes.{AreBoundedQuotesOfSource, AreQuotesOfSource, all_unreported, beyond_formed, code_under, ruling_under};
-ghost use Rattle.pricing.specs.FourLaws.{IsFromFormed};
+ghost use Rattle.pricing.specs.FiveQuotes.{AreBoundedQuotesOfSource, AreQuotesOfSource, all_unreported, code_under, ruling_under};
 ghost use Rattle.pricing.specs.Quotes.{IsQuote};
-ghost use Rattle.pricing.specs.steps.FiveQuotes.{AreBoundedQuotesOfFigures, AreQuotesOfFigures};
+ghost use Rattle.pricing.specs.steps.FiveQuotes.{AreQuotesOfFigures};
 ghost use Rattle.pricing.specs.declared.codes.FiveQuotes.{FiveQuotes};
 
 use crate::fault::QuoteFault;
@@ -66,8 +64,7 @@ fn quote_under<R: Rulebook + Drop>(
     rulebook: R,
     terms: Terms,
 ) -> Result<Quote, QuoteFault>
-    ensures quote_under_the_terms { IsQuote (code_under terms R.Rulebook.CODE) (ruling_under terms (R.Rulebook.ruling rulebook) figures.now) figures.now.avoided result }
-    ensures bounds_kept { IsFromFormed figures.now (R.Rulebook.ruling rulebook figures.now) → IsBoundedQuote (beyond_formed terms figures.now.avoided) figures.now result }
+    ensures { IsQuote (code_under terms R.Rulebook.CODE) (ruling_under terms (R.Rulebook.ruling rulebook) figures.now) figures.now.avoided result }
 {
     match terms {
         Terms::Alone => quote_figures(figures, &rulebook),
@@ -76,8 +73,7 @@ fn quote_under<R: Rulebook + Drop>(
 }
 
 fn quotes_of(figures: &Figures, terms: Terms) -> FiveQuotes
-    ensures quotes_of_the_figures { AreQuotesOfFigures terms figures.now result }
-    ensures bounds_kept { AreBoundedQuotesOfFigures terms figures.now result }
+    ensures { AreQuotesOfFigures terms figures.now result }
 {
     FiveQuotes {
         weighted_average: quote_under(figures, WeightedAverage, terms),

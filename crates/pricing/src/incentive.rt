@@ -8,19 +8,25 @@ use crate::ruling::{DirectedPrice, Net, Ruling};
 use figures::{Figures, extreme_of};
 use units::Ratio;
 
-/// The rulebook below with the incentive component of national terms: an up price is lifted, or a down price lowered, to
-/// the avoided value where that is more extreme. Its code is ten above the one below, 65,535 at most, and its deciding
-/// net that one's.
+// How far a layer's code is above the one below, and the greatest code.
+const STEP: u16 = 10;
+
+const HIGHEST_CODE: u16 = 65_535;
+
+/// The incentive component over the rulebook below: an up price is lifted, and a down price lowered, to the avoided value
+/// where that is more extreme than the exact price. Avoided stays avoided, and an absent avoided value changes nothing.
+/// The code is ten above the one below, 65,535 at most, and the deciding net is that one's. It is for national boundary
+/// conditions, after Svenska kraftnät, reference group on imbalance pricing, second meeting, 16 June 2026.
 #[derive(Clone, Copy, Drop)]
 pub struct Incentive<R> {
     pub below: R,
 }
 
 impl<R: Rulebook> Rulebook for Incentive<R> {
-    const CODE: u16 = if R::CODE > 65_525 {
-        65_535
+    const CODE: u16 = if R::CODE > HIGHEST_CODE - STEP {
+        HIGHEST_CODE
     } else {
-        R::CODE + 10
+        R::CODE + STEP
     };
 
     const NET: Net = R::NET;

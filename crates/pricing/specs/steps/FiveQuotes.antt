@@ -1,7 +1,6 @@
 -- The quotes of figures under the five rulebooks.
 use Rattle.figures.specs.declared.quarter_figures.Figures.{Figures}
-use Rattle.pricing.specs.Bounds.{IsBoundedQuote}
-use Rattle.pricing.specs.FiveQuotes.{AreByCode, beyond_formed, code_under, ruling_under}
+use Rattle.pricing.specs.FiveQuotes.{AreByCode, code_under, ruling_under}
 use Rattle.pricing.specs.Quotes.{IsQuote}
 use Rattle.pricing.specs.declared.codes.FiveQuotes.{FiveQuotes}
 use Rattle.pricing.specs.declared.codes.Terms.{Terms}
@@ -9,7 +8,3 @@ use Rattle.pricing.specs.declared.codes.Terms.{Terms}
 -- under each rulebook and the terms the quote of what is decided for the figures
 abbrev pub AreQuotesOfFigures : Terms → Figures → FiveQuotes → Type 0
 AreQuotesOfFigures t f q = AreByCode (λ code ruling a. IsQuote (code_under t code) (ruling_under t ruling f) f.avoided a) q
-
--- each quote lies in its bounds for the figures
-abbrev pub AreBoundedQuotesOfFigures : Terms → Figures → FiveQuotes → Type 0
-AreBoundedQuotesOfFigures t f q = AreByCode (λ code ruling a. IsBoundedQuote (beyond_formed t f.avoided) f a) q

@@ -1,7 +1,6 @@
-use Rattle.std.proofs.Common.{arith, Ok, None, ap, ◌∙◌, subst}
-use Rattle.units.specs.Exact.{exact_of}
+use Rattle.std.proofs.Common.{Ok, None, ap, ◌∙◌, subst}
 use Rattle.pricing.specs.Quotes.{IsQuote}
-use Rattle.pricing.proofs.Bounding.{bounded_to, quote_bounded}
+use Rattle.pricing.proofs.Bounding.{quote_in_bounds}
 use Rattle.pricing.proofs.Only.{only_answer}
 use Rattle.pricing.proofs.quote.quote_figures.Goals as goal
 
@@ -23,13 +22,11 @@ returns-clause-only_answer g c = λ a h. only_answer g.R.Rulebook.CODE (g.R.Rule
 pub returns-clause-bounds_kept : goal.returns-clause-bounds_kept
 returns-clause-bounds_kept g c =
     let f = c.args.figures.now in
-    let r = c.args.rulebook.now in
-    let n = c.nearest_cent.ensures in
-    grind (arith, quote_bounded g.R.Rulebook.NET f (g.R.Rulebook.ruling r f) c.in-Some.directed.direction (exact_of c.in-Some.directed.price) c.nearest_cent.result (g.met.R.Rulebook.keeps_laws r f) c.in-Some.ensures n.nearest n.between)
+    let laws = g.met.R.Rulebook.keeps_laws c.args.rulebook.now f in
+    quote_in_bounds f.avoided g.R.Rulebook.CODE f (g.R.Rulebook.ruling c.args.rulebook.now f) _ laws.formed laws.mean (returns-clause-quote_of_the_ruling g c)
 
 pub returns-clause-formed_bounds_kept : goal.returns-clause-formed_bounds_kept
 returns-clause-formed_bounds_kept g c = λ within.
     let f = c.args.figures.now in
-    let r = c.args.rulebook.now in
-    let n = c.nearest_cent.ensures in
-    grind (arith, bounded_to None f (g.R.Rulebook.ruling r f) c.in-Some.directed.direction (exact_of c.in-Some.directed.price) c.nearest_cent.result within (g.met.R.Rulebook.keeps_laws r f).mean c.in-Some.ensures n.nearest n.between)
+    let laws = g.met.R.Rulebook.keeps_laws c.args.rulebook.now f in
+    quote_in_bounds None g.R.Rulebook.CODE f (g.R.Rulebook.ruling c.args.rulebook.now f) _ within laws.mean (returns-clause-quote_of_the_ruling g c)
