@@ -1,0 +1,6 @@
+// What the programs that print five prices of a packed sheet share.
+#![tactic(auto)]
+
+mod program;
+
+pub use program::{FivePrices, unreported};
