@@ -1,2 +1,2 @@
 -- What is made of the answer to a sheet: the slot that is named, and the status.
-pub mod Outcomes
+pub mod Statuses

@@ -1,7 +1,7 @@
 // A program that prints the quotes of a packed sheet under the five rulebooks and the terms.
 ghost use Rattle.std.specs.Prelude.{◌≡◌, IfOk, IfSome, is_err};
 ghost use Rattle.std.specs.List.{list_any};
-ghost use Rattle.five_prices.specs.Outcomes.{IsStatusOfSheet, status_of_answer, unreported_slot};
+ghost use Rattle.five_prices.specs.Statuses.{IsStatusOfSheet, status_of_answer, unreported_slot};
 ghost use Rattle.lines.specs.Quarters.{answers_by_code};
 
 use command::{Failure, Manual, Program, Status};
