@@ -2,7 +2,11 @@
 ghost use Rattle.std.specs.Prelude.{◌≡◌, IfOk, IfSome, is_err};
 ghost use Rattle.std.specs.List.{list_any};
 ghost use Rattle.five_prices.specs.Statuses.{IsStatusOfSheet, status_of_answer, unreported_slot};
+ghost use Rattle.figures.specs.Gathering.{FirstUnreported};
 ghost use Rattle.lines.specs.Quarters.{answers_by_code};
+ghost use Rattle.pricing.specs.FiveQuotes.{AreQuotesOfSource};
+ghost use Rattle.pricing.specs.declared.codes.Terms.{Terms};
+ghost use Rattle.source.specs.Meanings.{Meaning};
 
 use command::{Failure, Manual, Program, Status};
 use lines::{FiveLines, QuarterLines, lines_of};
@@ -21,7 +25,8 @@ pub struct FivePrices<'a> {
 
 /// The unreported slot for which the quotes are refused, if they are. They are refused for it under each rulebook alike.
 pub fn unreported(quotes: &FiveQuotes) -> Option<usize>
-    ensures { result ≡ unreported_slot quotes.now.weighted_average }
+    ensures by_the_first_answer { result ≡ unreported_slot quotes.now.weighted_average }
+    ensures first_unreported { (t : Terms) (m : Meaning) → AreQuotesOfSource t m quotes.now → IfSome result (FirstUnreported m.slots) }
 {
     match quotes.weighted_average {
         Err(QuoteFault::Unreported(fault)) => Some(fault.slot),
