@@ -1,5 +1,6 @@
 // A writer of sheets for the tests, apart from the library.
 use lines::lines_of;
+use pricing::Terms;
 use std::alloc::{AllocError, Global};
 
 /// The direction of a slot's one price, with the lead byte that tells it.
@@ -86,9 +87,14 @@ impl Bytes {
         Ok(())
     }
 
+    /// What is printed of the sheet under the terms.
+    pub(crate) fn printed_under(&self, terms: Terms) -> Result<String, AllocError> {
+        let lines = lines_of(self.sheet.as_slice(), terms);
+        format!(in *self.sheet.allocator(); "{lines}")
+    }
+
     /// What the program prints of the sheet.
     pub(crate) fn printed(&self) -> Result<String, AllocError> {
-        let lines = lines_of(self.sheet.as_slice());
-        format!(in *self.sheet.allocator(); "{lines}")
+        self.printed_under(Terms::Alone)
     }
 }

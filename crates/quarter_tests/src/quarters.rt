@@ -1,32 +1,34 @@
 // Quarters worked by hand.
 use crate::bytes::Bytes;
 use crate::bytes::Formed::{Down, Up};
-use crate::reference_price::Referenced;
-use pricing::quote_source;
-use sheet::Sheet;
 use std::alloc::{AllocError, Global};
 use std::test::Fail;
-use units::{Price, Quantity};
 
-#[test]
-fn three_price_levels(rt: HostRuntime) -> Result<(), Fail> {
-    let mut bytes = Bytes::head(rt.alloc(), 400_000, Some(5_000))?;
+// Three price levels of automatic demand: the weighted mean is 346 2/3, and the highest counting price 1000.00.
+pub(crate) fn three_levels(heap: Global, avoided: Option<i32>) -> Result<Bytes, AllocError> {
+    let mut bytes = Bytes::head(heap, 400_000, avoided)?;
     bytes.priced(Up, 75, 100_000, 20_000)?;
     bytes.priced(Up, 75, 100_000, 40_000)?;
     bytes.priced(Up, 75, 100_000, 70_000)?;
     bytes.priced(Up, 1, 300_000, 10_000)?;
     bytes.priced(Up, 1, 100_000, 100_000)?;
     bytes.idle(1)?;
+    Ok(bytes)
+}
+
+#[test]
+fn three_price_levels(rt: HostRuntime) -> Result<(), Fail> {
     assert_eq!(rt;
-        bytes.printed()?.as_str(),
+        three_levels(rt.alloc(), Some(5_000))?.printed()?.as_str(),
         "1 U 346.67\n2 U 1000.00\n3 U 1000.00\n4 U 1000.00\n5 U 346.67\n"
     );
     Ok(())
 }
 
-// The Finnish note's row of 15:00.
-fn first_quarter(heap: Global) -> Result<Bytes, AllocError> {
-    let mut bytes = Bytes::head(heap, 200_000, None)?;
+// The Finnish note's row of 15:00, with an avoided value that the note does not have: the weighted mean is 64.29, and the
+// highest price formed 100.00.
+pub(crate) fn first_quarter(heap: Global, avoided: Option<i32>) -> Result<Bytes, AllocError> {
+    let mut bytes = Bytes::head(heap, 200_000, avoided)?;
     bytes.priced(Up, 225, 80_000, 10_000)?;
     bytes.priced(Up, 1, 200_000, 5_000)?;
     bytes.idle(2)?;
@@ -37,7 +39,7 @@ fn first_quarter(heap: Global) -> Result<Bytes, AllocError> {
 #[test]
 fn manual_energy_activated(rt: HostRuntime) -> Result<(), Fail> {
     assert_eq!(rt;
-        first_quarter(rt.alloc())?.printed()?.as_str(),
+        first_quarter(rt.alloc(), None)?.printed()?.as_str(),
         "1 U 64.29\n2 U 100.00\n3 U 64.29\n4 U 100.00\n5 U 64.29\n"
     );
     Ok(())
@@ -106,20 +108,5 @@ fn down_quarter(rt: HostRuntime) -> Result<(), Fail> {
         bytes.printed()?.as_str(),
         "1 D -0.01\n2 D -0.01\n3 D -0.01\n4 D -0.01\n5 D -3.00\n"
     );
-    Ok(())
-}
-
-// A rulebook from outside is quoted as the library's own are, and by the price that it holds. The weighted mean is 64.29
-// and the highest price formed 100.00.
-#[test]
-fn own_rulebook(rt: HostRuntime) -> Result<(), Fail> {
-    let bytes = first_quarter(rt.alloc())?;
-    let sheet = Sheet::read(bytes.sheet.as_slice());
-    for (reference, cents) in [(1_000, 6_429), (8_000, 8_000), (15_000, 10_000)] {
-        let reference = Price::new(reference)?;
-        let quote = quote_source(&sheet, &Referenced { reference })?;
-        assert_eq!(rt; quote.code, 31);
-        assert_eq!(rt; quote.price.cents(), cents);
-    }
     Ok(())
 }
