@@ -1,78 +1,121 @@
 // Both calculations of one sheet, side by side.
-use crate::fault::{Fault, Numbered};
-use crate::outcome::Outcome;
+use crate::answers::{Answer, Stack};
+use crate::outcome::{Effect, Outcome};
 use crate::plain::{DEMAND, PRICE, Plain, Quarter, UNREPORTED, ZONE_NET, is_within};
 use crate::reader::{Told, read};
-use crate::rules::{Quote, RULES, Rules, quote_of};
+use crate::rules::{REFERENCE, RULES, Rules};
 use crate::writer::sheet_of;
 use lines::lines_of;
-use pricing::{Finnish, QuoteFault, quote_source};
+use pricing::{CombinedAll, CombinedAutomatic, Finnish, MaxMin, Rulebook, Terms, WeightedAverage};
+use quarter_tests::Referenced;
 use sheet::Sheet;
 use source::{NettingFill, Row, Table};
 use std::alloc::{AllocError, Global};
-use std::fmt;
 use units::{Price, Quantity, ZoneNet};
 use writing::sheet_vec;
 
-/// The printed lines of both, whether all else agrees, and what became of the sheet.
+/// The printed lines of both under the same terms.
 #[derive(Drop)]
-pub(crate) struct Both {
+pub(crate) struct Printed {
     pub rival: String,
     pub library: String,
+}
+
+/// Both calculations of one sheet, and what became of it.
+#[derive(Drop)]
+pub(crate) struct Both {
+    /// Codes 1 to 5.
+    pub alone: Printed,
+    /// Codes 11 to 15.
+    pub with_incentive: Printed,
     pub told_alike: bool,
+    pub quotes_alike: bool,
     pub outcome: Outcome,
+    pub effect: Effect,
+}
+
+impl Printed {
+    pub(crate) fn agree(&self) -> bool {
+        self.rival == self.library
+    }
 }
 
 impl Both {
     pub(crate) fn agree(&self) -> bool {
-        self.told_alike && self.rival == self.library
+        let lines = self.alone.agree() && self.with_incentive.agree();
+        lines && self.told_alike && self.quotes_alike
     }
 }
 
-// What is printed of one rulebook.
-#[derive(Clone, Copy)]
-struct Line {
-    rules: Rules,
-    answer: Result<Quote, Fault>,
-}
-
-impl fmt::Display for Line {
-    fn fmt<W: fmt::Write>(&self, f: &mut fmt::Formatter<W>) -> fmt::Result {
-        let code = self.rules.code();
-        match self.answer {
-            Ok(quote) => write!(f, "{code} {quote}"),
-            Err(fault) => write!(f, "{code} ! {}", fault.refusal.number()),
-        }
-    }
-}
-
-fn rival_lines(heap: Global, told: &Told) -> Result<String, AllocError> {
+fn rival_lines(heap: Global, told: &Told, layers: u16) -> Result<String, AllocError> {
     if let Err(fault) = told.check {
         return format!(in heap; "! {} {}\n", fault.refusal.number(), fault.place);
     }
     let mut text = String::new(heap);
     for rules in RULES.iter().copied() {
-        let answer = quote_of(&told.quarter, rules);
-        writeln!(text, "{}", Line { rules, answer })?;
+        writeln!(
+            text,
+            "{}",
+            Answer::rival(&told.quarter, rules.under(layers))
+        )?;
     }
     Ok(text)
 }
 
-// The refusal of a quote under code 5 with its place, which no line prints.
-fn same_place(sheet: &Sheet<'_>, quarter: &Quarter) -> bool {
-    let own = quote_of(quarter, Rules::Finnish).err();
-    let fault = quote_source(sheet, &Finnish).err();
-    own.map(Numbered::from) == fault.map(Numbered::of)
+fn lines_under(
+    heap: Global,
+    bytes: &[u8],
+    told: &Told,
+    terms: Terms,
+) -> Result<Printed, AllocError> {
+    let layers = match terms {
+        Terms::Alone => 0,
+        Terms::WithIncentive => 1,
+    };
+    let lines = lines_of(bytes, terms);
+    Ok(Printed {
+        rival: rival_lines(heap, told, layers)?,
+        library: format!(in heap; "{lines}")?,
+    })
+}
+
+// Under one rulebook: code, direction and cents, or number and place of the refusal, with incentive components and without.
+fn same_stack<R: Rulebook + Clone + Copy + Drop>(
+    sheet: &Sheet<'_>,
+    quarter: &Quarter,
+    rulebook: R,
+    rules: Rules,
+) -> bool {
+    Stack::new(sheet, quarter, rulebook, rules.under(0)).agree()
+}
+
+fn same_quotes(sheet: &Sheet<'_>, quarter: &Quarter) -> bool {
+    let outside = |reference| same_stack(
+        sheet,
+        quarter,
+        Referenced { reference },
+        Rules::Referenced,
+    );
+    same_stack(sheet, quarter, WeightedAverage, Rules::WeightedAverage)
+        && same_stack(sheet, quarter, CombinedAutomatic, Rules::CombinedAutomatic)
+        && same_stack(sheet, quarter, CombinedAll, Rules::CombinedAll)
+        && same_stack(sheet, quarter, MaxMin, Rules::MaxMin)
+        && same_stack(sheet, quarter, Finnish, Rules::Finnish)
+        && Price::new(REFERENCE).is_ok_and(outside)
 }
 
 // Whether what a sheet tells is the same, as it is and under the netting fill: both are written and compared.
 // An accepted sheet is written as it was.
-fn same_told(heap: Global, bytes: &[u8], read: &Told) -> Result<bool, AllocError> {
+fn same_told(
+    heap: Global,
+    sheet: Sheet<'_>,
+    bytes: &[u8],
+    read: &Told,
+) -> Result<bool, AllocError> {
     let quarter = &read.quarter;
-    let sheet = Sheet::read(bytes);
     let told = sheet_vec(heap, &sheet)?;
     let plain = sheet_of(heap, quarter)?;
-    let kept = same_place(&sheet, quarter) && (read.check.is_err() || plain.as_slice() == bytes);
+    let kept = read.check.is_err() || plain.as_slice() == bytes;
     let filled = sheet_vec(heap, &NettingFill { below: sheet })?;
     let netted = sheet_of(heap, &quarter.netted())?;
     Ok(kept && told == plain && filled == netted)
@@ -81,12 +124,14 @@ fn same_told(heap: Global, bytes: &[u8], read: &Told) -> Result<bool, AllocError
 /// Both calculations of a sheet.
 pub(crate) fn compare_sheet(heap: Global, bytes: &[u8]) -> Result<Both, AllocError> {
     let told = read(bytes);
-    let lines = lines_of(bytes);
+    let sheet = Sheet::read(bytes);
     Ok(Both {
-        rival: rival_lines(heap, &told)?,
-        library: format!(in heap; "{lines}")?,
-        told_alike: same_told(heap, bytes, &told)?,
+        alone: lines_under(heap, bytes, &told, Terms::Alone)?,
+        with_incentive: lines_under(heap, bytes, &told, Terms::WithIncentive)?,
+        quotes_alike: same_quotes(&sheet, &told.quarter),
+        told_alike: same_told(heap, sheet, bytes, &told)?,
         outcome: Outcome::of(&told),
+        effect: Effect::of(&told),
     })
 }
 

@@ -20,6 +20,13 @@ impl Fraction {
         }
     }
 
+    pub(crate) fn whole(n: i64) -> Fraction {
+        Fraction {
+            n: i128::from(n),
+            d: 1,
+        }
+    }
+
     /// The higher of two, by cross multiplication.
     fn higher(self, other: Fraction) -> Fraction {
         let own = self.n.saturating_mul(i128::from(other.d));

@@ -19,11 +19,35 @@ impl Outcome {
         if let Err(fault) = told.check {
             return Outcome::Sheet(fault.refusal);
         }
-        match quote_of(&told.quarter, Rules::WeightedAverage) {
+        match quote_of(&told.quarter, Rules::WeightedAverage.under(0)) {
             Ok(Quote::Up(_)) => Outcome::Up,
             Ok(Quote::Down(_)) => Outcome::Down,
             Ok(Quote::Avoided(_)) => Outcome::Avoided,
             Err(fault) => Outcome::Quote(fault.refusal),
+        }
+    }
+}
+
+/// What the incentive component does to the quote of code 1.
+#[derive(Clone, Copy)]
+pub(crate) enum Effect {
+    Lifted,
+    Lowered,
+    Nothing,
+}
+
+impl Effect {
+    /// Nothing of a refused sheet.
+    pub(crate) fn of(told: &Told) -> Effect {
+        if told.check.is_err() {
+            return Effect::Nothing;
+        }
+        let alone = quote_of(&told.quarter, Rules::WeightedAverage.under(0));
+        let above = quote_of(&told.quarter, Rules::WeightedAverage.under(1));
+        match (alone, above) {
+            (Ok(Quote::Up(below)), Ok(Quote::Up(cents))) if cents > below => Effect::Lifted,
+            (Ok(Quote::Down(below)), Ok(Quote::Down(cents))) if cents < below => Effect::Lowered,
+            _ => Effect::Nothing,
         }
     }
 }
@@ -62,11 +86,13 @@ pub(crate) struct Tally {
     pub count: u64,
 }
 
-/// A count for each outcome, and one for all that no sheet is to have.
+/// A count for each outcome, and one for all that no sheet is to have; and how often code 11 differs from code 1.
 #[derive(Clone, Copy)]
 pub(crate) struct Tallies {
     pub other: u64,
     pub rows: [Tally; 11],
+    pub lifted: u64,
+    pub lowered: u64,
 }
 
 impl Tallies {
@@ -74,10 +100,17 @@ impl Tallies {
         Tallies {
             other: 0,
             rows: OUTCOMES.map(|outcome| Tally { outcome, count: 0 }),
+            lifted: 0,
+            lowered: 0,
         }
     }
 
-    pub(crate) fn add(&mut self, outcome: Outcome) {
+    pub(crate) fn add(&mut self, outcome: Outcome, effect: Effect) {
+        match effect {
+            Effect::Lifted => self.lifted = self.lifted.saturating_add(1),
+            Effect::Lowered => self.lowered = self.lowered.saturating_add(1),
+            Effect::Nothing => {}
+        }
         for row in self.rows.iter_mut() {
             if row.outcome == outcome {
                 row.count = row.count.saturating_add(1);

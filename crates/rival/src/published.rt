@@ -9,27 +9,35 @@ use std::array;
 
 /// Slots from the first to the last, the kW of each, and the up and the down price formed, in cents.
 #[derive(Clone, Copy)]
-pub(crate) struct Block(usize, usize, i64, Option<i64>, Option<i64>);
+pub(crate) struct Block(
+    pub usize,
+    pub usize,
+    pub i64,
+    pub Option<i64>,
+    pub Option<i64>,
+);
 
 const NO_VALUE: Option<Result<Quote, Fault>> = Some(Err(Fault {
     refusal: Refusal::NoAvoided,
     place: SLOTS,
 }));
 
-/// A named quarter. Slots in no block have demand 0 and no price. What is stated of a rulebook is the answer that the
-/// source prints, rounded to `unit` cents, and absent where it prints none.
+/// The answers of codes 1 to 5, or of 11 to 15, that a source prints, and none where it prints none.
+pub(crate) type Stated = [Option<Result<Quote, Fault>>; 5];
+
+/// A named quarter. Slots in no block have demand 0 and no price. What is stated is rounded to `unit` cents.
 #[derive(Clone, Copy)]
 pub(crate) struct Case {
     pub name: &'static str,
     pub zone_net: i64,
     pub avoided: Option<i64>,
     pub blocks: &'static [Block],
-    pub stated: [Option<Result<Quote, Fault>>; 5],
+    pub stated: Stated,
     pub unit: u32,
 }
 
 // Area A of each table of the Swedish slides; worked by hand under codes 1 to 5.
-const THREE_LEVELS: &[Block] = &[
+pub(crate) const THREE_LEVELS: &[Block] = &[
     Block(0, 74, 100_000, Some(20_000), None),
     Block(75, 149, 100_000, Some(40_000), None),
     Block(150, 224, 100_000, Some(70_000), None),
@@ -38,9 +46,15 @@ const THREE_LEVELS: &[Block] = &[
 ];
 
 // 15:00 of the Finnish note, which is worked by hand too.
-const MANUAL_ACTIVATED: &[Block] = &[
+pub(crate) const MANUAL_ACTIVATED: &[Block] = &[
     Block(0, 224, 80_000, Some(10_000), None),
     Block(225, 225, 200_000, Some(5_000), None),
+];
+
+// 15:15 of the Finnish note.
+pub(crate) const DOWNWARD: &[Block] = &[
+    Block(0, 224, -80_000, None, Some(2_000)),
+    Block(225, 225, -120_000, Some(4_000), Some(4_000)),
 ];
 
 // 15:45 of the Finnish note, which is worked by hand too.
@@ -148,10 +162,7 @@ pub(crate) static CASES: [Case; 22] = [
         name: "Finnish note, 15:15",
         zone_net: -400_000,
         avoided: None,
-        blocks: &[
-            Block(0, 224, -80_000, None, Some(2_000)),
-            Block(225, 225, -120_000, Some(4_000), Some(4_000)),
-        ],
+        blocks: DOWNWARD,
         stated: [None, None, None, None, Some(Ok(Down(3_200)))],
         unit: 1,
     },
@@ -402,10 +413,11 @@ impl Case {
         }
     }
 
-    /// Whether the answers are those that the source states.
-    pub(crate) fn is_met(&self, quarter: &Quarter) -> bool {
-        RULES.iter().zip(self.stated.iter()).all(|(rules, stated)| {
-            let answer = quote_of(quarter, *rules).map(|quote| coarse(quote, self.unit));
+    /// Whether the answers with so many incentive components are those that are stated.
+    pub(crate) fn is_met(&self, quarter: &Quarter, layers: u16, stated: &Stated) -> bool {
+        RULES.iter().zip(stated.iter()).all(|(rules, stated)| {
+            let answer = quote_of(quarter, rules.under(layers));
+            let answer = answer.map(|quote| coarse(quote, self.unit));
             stated.is_none_or(|stated| answer == stated)
         })
     }

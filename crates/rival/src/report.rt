@@ -1,5 +1,6 @@
 // What is printed of the cases, and their count.
-use crate::compare::Both;
+use crate::answers::Stack;
+use crate::compare::{Both, Printed};
 use crate::day::Replies;
 use crate::outcome::Tallies;
 use crate::rules::Euros;
@@ -13,6 +14,13 @@ pub(crate) struct Report<'a> {
     cases: u64,
     differences: u64,
     tallies: Tallies,
+}
+
+/// Whether a named quarter has the answers that its source states.
+#[derive(Clone, Copy)]
+pub(crate) struct Met {
+    pub alone: bool,
+    pub with_incentive: bool,
 }
 
 // The lines of a text in one.
@@ -48,14 +56,31 @@ impl Report<'_> {
             .println(if same { "; the same" } else { "; A DIFFERENCE" })
     }
 
-    pub(crate) fn named(&mut self, name: &str, both: &Both, stated: bool) -> io::Result<()> {
-        let rival = in_one(self.rt.alloc(), both.rival.as_str())?;
-        print!(self.rt; "{name}: {rival}")?;
-        if !both.agree() {
-            let library = in_one(self.rt.alloc(), both.library.as_str())?;
+    fn printed(&mut self, printed: &Printed, same: bool) -> io::Result<()> {
+        let rival = in_one(self.rt.alloc(), printed.rival.as_str())?;
+        print!(self.rt; "{rival}")?;
+        if !printed.agree() {
+            let library = in_one(self.rt.alloc(), printed.library.as_str())?;
             print!(self.rt; "; the library: {library}")?;
         }
-        self.ended(both.agree() && stated)
+        self.ended(printed.agree() && same)
+    }
+
+    /// Two lines: the rulebooks alone, and with the incentive component.
+    pub(crate) fn named(&mut self, name: &str, both: &Both, stated: Met) -> io::Result<()> {
+        print!(self.rt; "{name}: ")?;
+        self.printed(&both.alone, both.told_alike && stated.alone)?;
+        print!(self.rt; "{name}, with the incentive component: ")?;
+        self.printed(
+            &both.with_incentive,
+            both.quotes_alike && stated.with_incentive,
+        )
+    }
+
+    /// One line: a rulebook alone, and with one and two incentive components.
+    pub(crate) fn stack(&mut self, name: &str, stack: &Stack, stated: bool) -> io::Result<()> {
+        print!(self.rt; "{name}, alone and with one and two incentive components: {stack}")?;
+        self.ended(stack.agree() && stated)
     }
 
     pub(crate) fn payment(
@@ -100,13 +125,17 @@ impl Report<'_> {
     ) -> io::Result<()> {
         let same = table && both.agree();
         if !same && self.differences == 0 {
-            let rival = both.rival.as_str();
-            let library = both.library.as_str();
             println!(self.rt; "quarter {number}, its table alike: {table}")?;
-            println!(self.rt; "{rival}the library:\n{library}{sheet:?}")?;
+            println!(self.rt; "quotes alike: {}", both.quotes_alike)?;
+            for printed in [&both.alone, &both.with_incentive] {
+                let rival = printed.rival.as_str();
+                let library = printed.library.as_str();
+                print!(self.rt; "{rival}the library:\n{library}")?;
+            }
+            println!(self.rt; "{sheet:?}")?;
         }
         self.count(same);
-        self.tallies.add(both.outcome);
+        self.tallies.add(both.outcome, both.effect);
         self.span("quarters", number, 100)
     }
 
@@ -116,6 +145,8 @@ impl Report<'_> {
         for tally in self.tallies.rows.iter() {
             println!(self.rt; "{}: {}", tally.outcome, tally.count)?;
         }
+        println!(self.rt; "code 11 lifted: {}", self.tallies.lifted)?;
+        println!(self.rt; "code 11 lowered: {}", self.tallies.lowered)?;
         println!(self.rt; "{} cases, {} differences", self.cases, self.differences)?;
         Ok(self.differences == 0)
     }

@@ -1,5 +1,6 @@
-// The five rulebooks, worked out over the slots. A quarter that goes down is mirrored: demands and prices change their
-// sign, so the extreme is always the highest, and the price is mirrored back at the end.
+// The five rulebooks and one from outside, worked out over the slots, with incentive components over them. A quarter that
+// goes down is mirrored: demands and prices change their sign, the avoided value too, so the extreme is always the highest,
+// and the price is mirrored back at the end.
 use crate::fault::{Fault, Refusal};
 use crate::fraction::{Fraction, higher};
 use crate::plain::{CYCLES, Plain, Quarter, SLOTS};
@@ -13,8 +14,22 @@ pub(crate) enum Rules {
     CombinedAll = 3,
     MaxMin = 4,
     Finnish = 5,
+    /// From outside the library: the weighted mean, and beyond it a reference price.
+    Referenced = 31,
 }
 
+/// The reference price, in cents.
+pub(crate) const REFERENCE: i64 = 8_000;
+
+/// A rulebook under a code, and how many incentive components lie over it.
+#[derive(Clone, Copy)]
+pub(crate) struct Layered {
+    pub rules: Rules,
+    pub code: u16,
+    pub layers: u16,
+}
+
+/// The rulebooks with a printed line.
 pub(crate) static RULES: [Rules; 5] = [
     Rules::WeightedAverage,
     Rules::CombinedAutomatic,
@@ -24,8 +39,20 @@ pub(crate) static RULES: [Rules; 5] = [
 ];
 
 impl Rules {
+    /// So many incentive components over the rulebook.
+    pub(crate) fn under(self, layers: u16) -> Layered {
+        Layered {
+            rules: self,
+            code: self as u16,
+            layers,
+        }
+    }
+}
+
+impl Layered {
+    /// Ten above for each incentive component, 65,535 at most.
     pub(crate) fn code(self) -> u16 {
-        self as u16
+        self.code.saturating_add(self.layers.saturating_mul(10))
     }
 }
 
@@ -38,7 +65,7 @@ pub(crate) enum Quote {
 }
 
 #[derive(Clone, Copy)]
-enum Direction {
+pub(crate) enum Direction {
     Up,
     Down,
 }
@@ -49,6 +76,21 @@ impl Direction {
             1.. => Some(Direction::Up),
             0 => None,
             _ => Some(Direction::Down),
+        }
+    }
+
+    pub(crate) fn quote(self, cents: i64) -> Quote {
+        match self {
+            Direction::Up => Quote::Up(cents),
+            Direction::Down => Quote::Down(cents),
+        }
+    }
+
+    // A number that is mirrored, or mirrored back.
+    fn mirrored(self, number: i64) -> i64 {
+        match self {
+            Direction::Up => number,
+            Direction::Down => number.saturating_mul(-1),
         }
     }
 }
@@ -84,16 +126,16 @@ impl Seen {
 
 impl View<'_> {
     fn see(&self, place: usize, slot: &Plain) -> Option<Seen> {
-        let (sign, formed) = match self.direction {
-            Direction::Up => (1i64, slot.up),
-            Direction::Down => (-1i64, slot.down),
+        let formed = match self.direction {
+            Direction::Up => slot.up,
+            Direction::Down => slot.down,
         };
-        let kw = sign.saturating_mul(slot.kw.unwrap_or(0));
+        let kw = self.direction.mirrored(slot.kw.unwrap_or(0));
         let volume = kw.max(0).unsigned_abs();
         formed.map(|cents| Seen {
             place,
             volume: volume.saturating_mul(u64::from(weight(place))),
-            price: sign.saturating_mul(cents),
+            price: self.direction.mirrored(cents),
         })
     }
 
@@ -112,38 +154,52 @@ impl View<'_> {
     }
 
     // The highest of the single prices that are looked at.
-    fn highest<F: Fn(&Seen) -> bool>(&self, looked_at: F) -> Option<Fraction>
+    fn highest<F: Fn(&Seen) -> bool>(&self, looked_at: F) -> Option<i64>
         requires { (state : F) (slot : _) → F.pre state slot }
     {
         let slots = self.quarter.slots.iter().enumerate();
         let seen = slots.filter_map(|(place, slot)| self.see(place, slot));
-        let prices = seen.filter(looked_at).map(|seen| seen.price);
-        prices.max().map(|price| Fraction {
-            n: i128::from(price),
-            d: 1,
-        })
+        seen.filter(looked_at).map(|seen| seen.price).max()
+    }
+
+    // The weighted mean, and beyond it the reference price, no further than the highest price formed.
+    fn referenced(&self) -> Option<Fraction> {
+        let mean = self.mean(SLOTS)?;
+        let highest = self.highest(|_| true)?;
+        let reference = self.direction.mirrored(REFERENCE).min(highest);
+        higher(Some(mean), Some(Fraction::whole(reference)))
     }
 
     fn exact(&self, rules: Rules) -> Option<Fraction> {
         let all = self.mean(SLOTS);
         let automatic = self.mean(CYCLES);
         let manual = self.highest(|seen| seen.counts() && seen.is_manual());
+        let manual = manual.map(Fraction::whole);
         match rules {
             Rules::WeightedAverage => all,
             Rules::CombinedAutomatic => higher(automatic, manual),
             Rules::CombinedAll => higher(all, manual),
-            Rules::MaxMin => self.highest(|seen| seen.counts()),
+            Rules::MaxMin => self.highest(|seen| seen.counts()).map(Fraction::whole),
             Rules::Finnish if manual.is_some() => all,
-            Rules::Finnish => higher(automatic, self.highest(|seen| seen.is_manual())),
+            Rules::Finnish => {
+                let formed = self.highest(|seen| seen.is_manual());
+                higher(automatic, formed.map(Fraction::whole))
+            }
+            Rules::Referenced => self.referenced(),
         }
     }
 
-    fn quote(&self, rules: Rules) -> Option<Quote> {
-        let cents = self.exact(rules)?.nearest();
-        Some(match self.direction {
-            Direction::Up => Quote::Up(cents),
-            Direction::Down => Quote::Down(cents.wrapping_neg()),
-        })
+    // The avoided value is compared once, however many incentive components there are, and before anything is rounded.
+    fn with_layers(&self, asked: Layered) -> Option<Fraction> {
+        let below = self.exact(asked.rules)?;
+        let avoided = self.quarter.avoided.filter(|_| asked.layers > 0);
+        let value = avoided.map(|cents| Fraction::whole(self.direction.mirrored(cents)));
+        higher(Some(below), value)
+    }
+
+    fn quote(&self, asked: Layered) -> Option<Quote> {
+        let cents = self.with_layers(asked)?.nearest();
+        Some(self.direction.quote(self.direction.mirrored(cents)))
     }
 }
 
@@ -156,16 +212,16 @@ fn local_net(quarter: &Quarter) -> i64 {
 }
 
 /// The quote of a quarter whose numbers are in bounds.
-pub(crate) fn quote_of(quarter: &Quarter, rules: Rules) -> Result<Quote, Fault> {
+pub(crate) fn quote_of(quarter: &Quarter, asked: Layered) -> Result<Quote, Fault> {
     if let Some(place) = quarter.slots.iter().position(|slot| slot.kw.is_none()) {
         return Err(Refusal::Unreported.at(place));
     }
-    let net = match rules {
-        Rules::Finnish => quarter.zone_net,
+    let net = match asked.rules {
+        Rules::Finnish | Rules::Referenced => quarter.zone_net,
         _ => local_net(quarter),
     };
     let direction = Direction::of(net);
-    let quote = direction.and_then(|direction| View { quarter, direction }.quote(rules));
+    let quote = direction.and_then(|direction| View { quarter, direction }.quote(asked));
     let avoided = quarter.avoided.map(Quote::Avoided);
     quote.or(avoided).ok_or(Refusal::NoAvoided.at(SLOTS))
 }

@@ -1,4 +1,4 @@
-// Payments worked by hand, and each refusal of the book in its order.
+// Payments worked by hand, with and without the incentive component, and each refusal of the book in its order.
 #![tactic(auto)]
 
 #[cfg(test)]
@@ -7,3 +7,5 @@ mod calls;
 mod payments;
 #[cfg(test)]
 mod refusals;
+#[cfg(test)]
+mod rulebooks;
