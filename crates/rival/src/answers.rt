@@ -1,7 +1,7 @@
 // What each calculation answers under one code.
 use crate::fault::Numbered;
 use crate::plain::Quarter;
-use crate::rules::{Layered, Quote, quote_of};
+use crate::rules::{Asked, Quote, quote_of};
 use pricing::{Incentive, QuoteDirection, Rulebook, quote_source};
 use sheet::Sheet;
 use std::fmt;
@@ -27,7 +27,7 @@ impl From<pricing::Quote> for Quote {
 
 impl Answer {
     /// The rival's.
-    pub(crate) fn rival(quarter: &Quarter, asked: Layered) -> Answer {
+    pub(crate) fn rival(quarter: &Quarter, asked: Asked) -> Answer {
         Answer {
             code: asked.code(),
             quote: quote_of(quarter, asked).map_err(Numbered::from),
@@ -61,22 +61,22 @@ impl fmt::Display for Answer {
 
 /// The answers of both under a rulebook with no, one and two incentive components over it.
 #[derive(Clone, Copy)]
-pub(crate) struct Stack {
+pub(crate) struct Answers {
     pub rival: [Answer; 3],
     library: [Answer; 3],
 }
 
-impl Stack {
+impl Answers {
     pub(crate) fn new<R: Rulebook + Clone + Copy + Drop>(
         sheet: &Sheet<'_>,
         quarter: &Quarter,
         rulebook: R,
-        own: Layered,
-    ) -> Stack {
+        own: Asked,
+    ) -> Answers {
         let once = Incentive { below: rulebook };
         let twice = Incentive { below: once };
-        Stack {
-            rival: [0, 1, 2].map(|layers| Answer::rival(quarter, Layered { layers, ..own })),
+        Answers {
+            rival: [0, 1, 2].map(|incentives| Answer::rival(quarter, Asked { incentives, ..own })),
             library: [
                 Answer::library(sheet, &rulebook),
                 Answer::library(sheet, &once),
@@ -90,7 +90,7 @@ impl Stack {
     }
 }
 
-impl fmt::Display for Stack {
+impl fmt::Display for Answers {
     fn fmt<W: fmt::Write>(&self, f: &mut fmt::Formatter<W>) -> fmt::Result {
         let [alone, once, twice] = self.rival;
         write!(f, "{alone}, {once}, {twice}")

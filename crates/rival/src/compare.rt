@@ -1,5 +1,5 @@
 // Both calculations of one sheet, side by side.
-use crate::answers::{Answer, Stack};
+use crate::answers::{Answer, Answers};
 use crate::outcome::{Effect, Outcome};
 use crate::plain::{DEMAND, PRICE, Plain, Quarter, UNREPORTED, ZONE_NET, is_within};
 use crate::reader::{Told, read};
@@ -47,7 +47,7 @@ impl Both {
     }
 }
 
-fn rival_lines(heap: Global, told: &Told, layers: u16) -> Result<String, AllocError> {
+fn rival_lines(heap: Global, told: &Told, incentives: u16) -> Result<String, AllocError> {
     if let Err(fault) = told.check {
         return format!(in heap; "! {} {}\n", fault.refusal.number(), fault.place);
     }
@@ -56,7 +56,7 @@ fn rival_lines(heap: Global, told: &Told, layers: u16) -> Result<String, AllocEr
         writeln!(
             text,
             "{}",
-            Answer::rival(&told.quarter, rules.under(layers))
+            Answer::rival(&told.quarter, rules.under(incentives))
         )?;
     }
     Ok(text)
@@ -68,39 +68,39 @@ fn lines_under(
     told: &Told,
     terms: Terms,
 ) -> Result<Printed, AllocError> {
-    let layers = match terms {
+    let incentives = match terms {
         Terms::Alone => 0,
         Terms::WithIncentive => 1,
     };
     let lines = lines_of(bytes, terms);
     Ok(Printed {
-        rival: rival_lines(heap, told, layers)?,
+        rival: rival_lines(heap, told, incentives)?,
         library: format!(in heap; "{lines}")?,
     })
 }
 
 // Under one rulebook: code, direction and cents, or number and place of the refusal, with incentive components and without.
-fn same_stack<R: Rulebook + Clone + Copy + Drop>(
+fn same_answers<R: Rulebook + Clone + Copy + Drop>(
     sheet: &Sheet<'_>,
     quarter: &Quarter,
     rulebook: R,
     rules: Rules,
 ) -> bool {
-    Stack::new(sheet, quarter, rulebook, rules.under(0)).agree()
+    Answers::new(sheet, quarter, rulebook, rules.under(0)).agree()
 }
 
 fn same_quotes(sheet: &Sheet<'_>, quarter: &Quarter) -> bool {
-    let outside = |reference| same_stack(
+    let outside = |reference| same_answers(
         sheet,
         quarter,
         Referenced { reference },
         Rules::Referenced,
     );
-    same_stack(sheet, quarter, WeightedAverage, Rules::WeightedAverage)
-        && same_stack(sheet, quarter, CombinedAutomatic, Rules::CombinedAutomatic)
-        && same_stack(sheet, quarter, CombinedAll, Rules::CombinedAll)
-        && same_stack(sheet, quarter, MaxMin, Rules::MaxMin)
-        && same_stack(sheet, quarter, Finnish, Rules::Finnish)
+    same_answers(sheet, quarter, WeightedAverage, Rules::WeightedAverage)
+        && same_answers(sheet, quarter, CombinedAutomatic, Rules::CombinedAutomatic)
+        && same_answers(sheet, quarter, CombinedAll, Rules::CombinedAll)
+        && same_answers(sheet, quarter, MaxMin, Rules::MaxMin)
+        && same_answers(sheet, quarter, Finnish, Rules::Finnish)
         && Price::new(REFERENCE).is_ok_and(outside)
 }
 

@@ -1,10 +1,9 @@
 // The edges of the incentive component: avoided values at the bounds, at an exact price and between two cents, rulebooks
 // from outside the library, and the highest codes. What is stated is worked by hand.
-use crate::answers::{Answer, Stack};
-use crate::compare::compare_sheet;
+use crate::answers::{Answer, Answers};
 use crate::published::{Block, Case, DOWNWARD, MANUAL_ACTIVATED, Stated, THREE_LEVELS};
-use crate::report::{Met, Report};
-use crate::rules::{Direction, Layered, Quote, REFERENCE, Rules};
+use crate::report::Report;
+use crate::rules::{Asked, Direction, Quote, REFERENCE, Rules};
 use crate::writer::sheet_of;
 use pricing::{Finnish, Rulebook};
 use quarter_tests::{Referenced, UnderCode};
@@ -151,24 +150,12 @@ impl Edged {
             unit: 1,
         }
     }
-
-    fn report(&self, edge: &Edge, report: &mut Report<'_>) -> io::Result<()> {
-        let case = self.case(edge);
-        let quarter = case.quarter();
-        let sheet = sheet_of(report.heap(), &quarter)?;
-        let both = compare_sheet(report.heap(), sheet.as_slice())?;
-        let met = Met {
-            alone: case.is_met(&quarter, 0, &case.stated),
-            with_incentive: case.is_met(&quarter, 1, &self.stated(edge.cents)),
-        };
-        report.named(case.name, &both, met)
-    }
 }
 
 pub(crate) fn edges(report: &mut Report<'_>) -> io::Result<()> {
     for edged in EDGED.iter() {
         for edge in edged.edges.iter() {
-            edged.report(edge, report)?;
+            report.case(&edged.case(edge), &edged.stated(edge.cents))?;
         }
     }
     Ok(())
@@ -176,7 +163,7 @@ pub(crate) fn edges(report: &mut Report<'_>) -> io::Result<()> {
 
 // 15:00 of the Finnish note, with an avoided value above all of its exact prices but 100.00.
 static LIFTED: Case = Case {
-    name: "the quarter of the stacks",
+    name: "Finnish note, 15:00, avoided value 90.00",
     zone_net: 200_000,
     avoided: Some(9_000),
     blocks: MANUAL_ACTIVATED,
@@ -186,31 +173,31 @@ static LIFTED: Case = Case {
 
 // One rulebook with no, one and two incentive components: what is stated are the codes, the cents of the rulebook alone,
 // and 90.00 above it.
-fn stack<R: Rulebook + Clone + Copy + Drop>(
+fn quoted<R: Rulebook + Clone + Copy + Drop>(
     report: &mut Report<'_>,
     name: &str,
     rulebook: R,
-    own: Layered,
+    own: Asked,
     stated: [(u16, i64); 3],
 ) -> io::Result<()> {
     let quarter = LIFTED.quarter();
     let sheet = sheet_of(report.heap(), &quarter)?;
-    let stack = Stack::new(&Sheet::read(sheet.as_slice()), &quarter, rulebook, own);
+    let answers = Answers::new(&Sheet::read(sheet.as_slice()), &quarter, rulebook, own);
     let wanted = stated.map(|(code, cents)| Answer {
         code,
         quote: Ok(Quote::Up(cents)),
     });
-    report.stack(name, &stack, stack.rival == wanted)
+    report.rulebook(name, &answers, answers.rival == wanted)
 }
 
 // The Finnish edition under a code of its own.
 fn coded<const N: u16>(report: &mut Report<'_>, name: &str, codes: [u16; 3]) -> io::Result<()> {
     let [alone, once, twice] = codes;
-    stack(
+    quoted(
         report,
         name,
         UnderCode::<Finnish, N> { rulebook: Finnish },
-        Layered {
+        Asked {
             code: N,
             ..Rules::Finnish.under(0)
         },
@@ -218,9 +205,9 @@ fn coded<const N: u16>(report: &mut Report<'_>, name: &str, codes: [u16; 3]) -> 
     )
 }
 
-pub(crate) fn stacks(report: &mut Report<'_>) -> io::Result<()> {
+pub(crate) fn rulebooks(report: &mut Report<'_>) -> io::Result<()> {
     if let Ok(reference) = Price::new(REFERENCE) {
-        stack(
+        quoted(
             report,
             "a reference price of 80.00",
             Referenced { reference },

@@ -21,7 +21,7 @@ mod writer;
 use command::{Failure, Manual, Status, Takes, ended_by_words, status_of};
 use compare::{compare_sheet, same_table};
 use day::{Day, Metered};
-use edges::{edges, stacks};
+use edges::{edges, rulebooks};
 use generator::{Dice, KINDS};
 use published::CASES;
 use reader::read;
@@ -30,17 +30,10 @@ use std::io;
 use std::process::ExitCode;
 use writer::sheet_of;
 
-// No source states an avoided value that is beyond a price, so each states the same with the incentive component.
+// Each avoided value is absent or no more extreme than a price, so with the incentive component the same is stated.
 fn quarters(report: &mut Report<'_>) -> io::Result<()> {
     for case in CASES.iter() {
-        let quarter = case.quarter();
-        let sheet = sheet_of(report.heap(), &quarter)?;
-        let both = compare_sheet(report.heap(), sheet.as_slice())?;
-        let met = Met {
-            alone: case.is_met(&quarter, 0, &case.stated),
-            with_incentive: case.is_met(&quarter, 1, &case.stated),
-        };
-        report.named(case.name, &both, met)?;
+        report.case(case, &case.stated)?;
     }
     Ok(())
 }
@@ -207,7 +200,7 @@ fn compare_all(rt: &HostRuntime) -> io::Result<bool> {
     let mut dice = Dice::new();
     quarters(&mut report)?;
     edges(&mut report)?;
-    stacks(&mut report)?;
+    rulebooks(&mut report)?;
     sheets(&mut report)?;
     payments(&mut report)?;
     calls(&mut report, &mut dice)?;

@@ -414,9 +414,9 @@ impl Case {
     }
 
     /// Whether the answers with so many incentive components are those that are stated.
-    pub(crate) fn is_met(&self, quarter: &Quarter, layers: u16, stated: &Stated) -> bool {
+    pub(crate) fn is_met(&self, quarter: &Quarter, incentives: u16, stated: &Stated) -> bool {
         RULES.iter().zip(stated.iter()).all(|(rules, stated)| {
-            let answer = quote_of(quarter, rules.under(layers));
+            let answer = quote_of(quarter, rules.under(incentives));
             let answer = answer.map(|quote| coarse(quote, self.unit));
             stated.is_none_or(|stated| answer == stated)
         })

@@ -1,9 +1,11 @@
 // What is printed of the cases, and their count.
-use crate::answers::Stack;
-use crate::compare::{Both, Printed};
+use crate::answers::Answers;
+use crate::compare::{Both, Printed, compare_sheet};
 use crate::day::Replies;
 use crate::outcome::Tallies;
+use crate::published::{Case, Stated};
 use crate::rules::Euros;
+use crate::writer::sheet_of;
 use std::alloc::{AllocError, Global};
 use std::io;
 
@@ -16,7 +18,7 @@ pub(crate) struct Report<'a> {
     tallies: Tallies,
 }
 
-/// Whether a named quarter has the answers that its source states.
+/// Whether what is stated of a named quarter or sheet is met.
 #[derive(Clone, Copy)]
 pub(crate) struct Met {
     pub alone: bool,
@@ -66,6 +68,18 @@ impl Report<'_> {
         self.ended(printed.agree() && same)
     }
 
+    /// A named quarter, with what is stated of it with the incentive component.
+    pub(crate) fn case(&mut self, case: &Case, with_incentive: &Stated) -> io::Result<()> {
+        let quarter = case.quarter();
+        let sheet = sheet_of(self.heap(), &quarter)?;
+        let both = compare_sheet(self.heap(), sheet.as_slice())?;
+        let met = Met {
+            alone: case.is_met(&quarter, 0, &case.stated),
+            with_incentive: case.is_met(&quarter, 1, with_incentive),
+        };
+        self.named(case.name, &both, met)
+    }
+
     /// Two lines: the rulebooks alone, and with the incentive component.
     pub(crate) fn named(&mut self, name: &str, both: &Both, stated: Met) -> io::Result<()> {
         print!(self.rt; "{name}: ")?;
@@ -78,9 +92,14 @@ impl Report<'_> {
     }
 
     /// One line: a rulebook alone, and with one and two incentive components.
-    pub(crate) fn stack(&mut self, name: &str, stack: &Stack, stated: bool) -> io::Result<()> {
-        print!(self.rt; "{name}, alone and with one and two incentive components: {stack}")?;
-        self.ended(stack.agree() && stated)
+    pub(crate) fn rulebook(
+        &mut self,
+        name: &str,
+        answers: &Answers,
+        stated: bool,
+    ) -> io::Result<()> {
+        print!(self.rt; "{name}, alone and with one and two incentive components: {answers}")?;
+        self.ended(answers.agree() && stated)
     }
 
     pub(crate) fn payment(

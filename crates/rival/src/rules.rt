@@ -23,10 +23,10 @@ pub(crate) const REFERENCE: i64 = 8_000;
 
 /// A rulebook under a code, and how many incentive components lie over it.
 #[derive(Clone, Copy)]
-pub(crate) struct Layered {
+pub(crate) struct Asked {
     pub rules: Rules,
     pub code: u16,
-    pub layers: u16,
+    pub incentives: u16,
 }
 
 /// The rulebooks with a printed line.
@@ -40,19 +40,19 @@ pub(crate) static RULES: [Rules; 5] = [
 
 impl Rules {
     /// So many incentive components over the rulebook.
-    pub(crate) fn under(self, layers: u16) -> Layered {
-        Layered {
+    pub(crate) fn under(self, incentives: u16) -> Asked {
+        Asked {
             rules: self,
             code: self as u16,
-            layers,
+            incentives,
         }
     }
 }
 
-impl Layered {
+impl Asked {
     /// Ten above for each incentive component, 65,535 at most.
     pub(crate) fn code(self) -> u16 {
-        self.code.saturating_add(self.layers.saturating_mul(10))
+        self.code.saturating_add(self.incentives.saturating_mul(10))
     }
 }
 
@@ -190,15 +190,15 @@ impl View<'_> {
     }
 
     // The avoided value is compared once, however many incentive components there are, and before anything is rounded.
-    fn with_layers(&self, asked: Layered) -> Option<Fraction> {
+    fn with_incentives(&self, asked: Asked) -> Option<Fraction> {
         let below = self.exact(asked.rules)?;
-        let avoided = self.quarter.avoided.filter(|_| asked.layers > 0);
+        let avoided = self.quarter.avoided.filter(|_| asked.incentives > 0);
         let value = avoided.map(|cents| Fraction::whole(self.direction.mirrored(cents)));
         higher(Some(below), value)
     }
 
-    fn quote(&self, asked: Layered) -> Option<Quote> {
-        let cents = self.with_layers(asked)?.nearest();
+    fn quote(&self, asked: Asked) -> Option<Quote> {
+        let cents = self.with_incentives(asked)?.nearest();
         Some(self.direction.quote(self.direction.mirrored(cents)))
     }
 }
@@ -212,7 +212,7 @@ fn local_net(quarter: &Quarter) -> i64 {
 }
 
 /// The quote of a quarter whose numbers are in bounds.
-pub(crate) fn quote_of(quarter: &Quarter, asked: Layered) -> Result<Quote, Fault> {
+pub(crate) fn quote_of(quarter: &Quarter, asked: Asked) -> Result<Quote, Fault> {
     if let Some(place) = quarter.slots.iter().position(|slot| slot.kw.is_none()) {
         return Err(Refusal::Unreported.at(place));
     }
