@@ -16,7 +16,7 @@ fn rows(automatic: Row, scheduled: Row) -> [Row; SLOTS] {
     rows
 }
 
-// 20 MWh of automatic demand at 100.00 and 50 MWh of manual energy at 50.00: the weighted mean is 64.29.
+// 15:00 of the Finnish note, 20 MWh of automatic demand at 100.00 and 50 MWh of manual energy at 50.00: 64.29.
 fn upward() -> [Row; SLOTS] {
     let automatic = Row {
         demand: 80_000,
@@ -31,7 +31,7 @@ fn upward() -> [Row; SLOTS] {
     rows(automatic, scheduled)
 }
 
-// The same downward: 20 MWh at 20.00 and 30 MWh at 40.00, so 32.00.
+// 15:15, downward: 20 MWh at 20.00 and 30 MWh at 40.00, so 32.00.
 fn downward() -> [Row; SLOTS] {
     let automatic = Row {
         demand: -80_000,
@@ -40,7 +40,7 @@ fn downward() -> [Row; SLOTS] {
     };
     let scheduled = Row {
         demand: -120_000,
-        up: None,
+        up: Some(4_000),
         down: Some(4_000),
     };
     rows(automatic, scheduled)
