@@ -4,6 +4,7 @@ use Rattle.pricing.specs.FiveQuotes.{AreQuotesUnlessFault}
 use Rattle.pricing.specs.Refusals.{quote_number, quote_place}
 use Rattle.pricing.specs.declared.fault.QuoteFault.{QuoteFault}
 use Rattle.pricing.specs.declared.codes.FiveQuotes.{FiveQuotes}
+use Rattle.pricing.specs.declared.codes.Terms.{Terms}
 use Rattle.pricing.specs.declared.quote.Quote.{Quote}
 use Rattle.pricing.specs.declared.quote.QuoteDirection.{QuoteDirection}
 use Rattle.pricing.specs.declared.quote.QuoteDirection.TheVariants.{Up, Down, Avoided}
@@ -28,7 +29,7 @@ abbrev pub plain_answer : Result Quote QuoteFault → PlainQuote
 plain_answer (Ok q) = record { refusal = 0; direction = direction_number q.direction; place = 0; cents = q.price.cents }
 plain_answer (Err e) = refused_as (quote_number e) (quote_place e)
 
--- codes 1 to 5
+-- the answer under each of the five rulebooks
 abbrev pub plain_quotes : FiveQuotes → PlainQuarter
 plain_quotes q = record {
   weighted_average = plain_answer q.weighted_average;
@@ -38,17 +39,17 @@ plain_quotes q = record {
   finnish = plain_answer q.finnish;
 }
 
--- the same under each code
+-- the same under each rulebook
 abbrev pub every_code : PlainQuote → PlainQuarter
 every_code q = record { weighted_average = q; combined_automatic = q; combined_all = q; max_min = q; finnish = q }
 
--- the quotes of a sheet, or its fault under each code
+-- the quotes of a sheet, or its fault under each rulebook
 abbrev pub plain_quarter : Result FiveQuotes SheetFault → PlainQuarter
 plain_quarter (Ok q) = plain_quotes q
 plain_quarter (Err f) = every_code (refused_as (fault_number f) (fault_place f))
 
--- the sheet's first fault, or else the quotes of what the sheet tells, in plain numbers
-pub record IsPlainQuarter (s : List ℕ) (r : PlainQuarter) : Type 0 where
+-- the sheet's first fault, or else under the terms the quotes of what the sheet tells, in plain numbers
+pub record IsPlainQuarter (t : Terms) (s : List ℕ) (r : PlainQuarter) : Type 0 where
   pub answer : Result FiveQuotes SheetFault
-  pub quotes : AreQuotesUnlessFault (first_fault s) (sheet_meaning s) answer
+  pub quotes : AreQuotesUnlessFault (first_fault s) t (sheet_meaning s) answer
   pub is : r ≡ plain_quarter answer

@@ -11,7 +11,7 @@ pub struct PlainQuote {
     pub cents: i64,
 }
 
-/// The quotes of codes 1 to 5.
+/// The quotes under the five rulebooks, in the order of their codes: 1 to 5, or with the incentive component 11 to 15.
 #[repr(C)]
 #[derive(Clone, Copy)]
 pub struct PlainQuarter {

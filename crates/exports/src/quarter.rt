@@ -1,10 +1,11 @@
-// Five prices of one sheet.
+// Five prices of one sheet, of the rulebooks alone or with the incentive component.
 ghost use Rattle.std.specs.Prelude.{◌≡◌};
 ghost use Rattle.exports.specs.Quarters.{IsPlainQuarter, direction_number, every_code, plain_answer, plain_quotes, refused_as};
 ghost use Rattle.exports.specs.declared.plain.PlainQuarter.{PlainQuarter};
+ghost use Rattle.pricing.specs.declared.codes.Terms.TheVariants.{Alone, WithIncentive};
 
 use crate::plain::{PlainQuarter, PlainQuote};
-use pricing::{FiveQuotes, Quote, QuoteDirection, QuoteFault, five_quotes};
+use pricing::{FiveQuotes, Quote, QuoteDirection, QuoteFault, Terms, five_quotes};
 use sheet::Sheet;
 use units::Refusal;
 
@@ -71,22 +72,32 @@ fn every_code(quote: PlainQuote) -> PlainQuarter
     }
 }
 
-fn quarter_of(bytes: &[u8]) -> PlainQuarter
-    ensures answer_in_plain_numbers { IsPlainQuarter bytes.now result }
-    ensures only_answer { (r : PlainQuarter) → IsPlainQuarter bytes.now r → r ≡ result }
+fn quarter_of(bytes: &[u8], terms: Terms) -> PlainQuarter
+    ensures answer_in_plain_numbers { IsPlainQuarter terms bytes.now result }
+    ensures only_answer { (r : PlainQuarter) → IsPlainQuarter terms bytes.now r → r ≡ result }
 {
     let sheet = Sheet::read(bytes);
     match sheet.check() {
-        Ok(()) => PlainQuarter::from(five_quotes(&sheet)),
+        Ok(()) => PlainQuarter::from(five_quotes(&sheet, terms)),
         Err(fault) => every_code(refused_as(fault)),
     }
 }
 
-/// The quotes of a sheet of any bytes. A refused sheet has its refusal under each code.
+/// The quotes of a sheet of any bytes under codes 1 to 5. A refused sheet has its refusal under each code.
 #[unsafe(no_mangle)]
 pub extern "C" fn fumeliosa_quarter(bytes: &[u8]) -> PlainQuarter
-    ensures answer_in_plain_numbers { IsPlainQuarter bytes.now result }
-    ensures only_answer { (r : PlainQuarter) → IsPlainQuarter bytes.now r → r ≡ result }
+    ensures answer_in_plain_numbers { IsPlainQuarter Alone bytes.now result }
+    ensures only_answer { (r : PlainQuarter) → IsPlainQuarter Alone bytes.now r → r ≡ result }
 {
-    quarter_of(bytes)
+    quarter_of(bytes, Terms::Alone)
+}
+
+/// The quotes of a sheet of any bytes under codes 11 to 15: the incentive component over each of codes 1 to 5. A refused
+/// sheet has its refusal under each code.
+#[unsafe(no_mangle)]
+pub extern "C" fn fumeliosa_incentive(bytes: &[u8]) -> PlainQuarter
+    ensures answer_in_plain_numbers { IsPlainQuarter WithIncentive bytes.now result }
+    ensures only_answer { (r : PlainQuarter) → IsPlainQuarter WithIncentive bytes.now r → r ≡ result }
+{
+    quarter_of(bytes, Terms::WithIncentive)
 }
