@@ -25,7 +25,7 @@ typedef struct {
     int64_t cents;
 } fumeliosa_quote;
 
-/* The quotes of codes 1 to 5. */
+/* The quotes under the five rulebooks: codes 1 to 5, or with the incentive component over them 11 to 15. */
 typedef struct {
     fumeliosa_quote weighted_average;
     fumeliosa_quote combined_automatic;
@@ -34,9 +34,15 @@ typedef struct {
     fumeliosa_quote finnish;
 } fumeliosa_five_quotes;
 
-/* The quotes of a packed sheet of any bytes. A refused sheet has its refusal (1 to 6) under each code; a sheet with an
-   unreported slot 7 and that slot; and a code that decides for the avoided value, where there is none, 8 and 228. */
+/* The quotes of a packed sheet of any bytes under codes 1 to 5. A refused sheet has its refusal (1 to 6) under each code;
+   a sheet with an unreported slot 7 and that slot; and a code that decides for the avoided value, where there is none,
+   8 and 228. */
 fumeliosa_five_quotes fumeliosa_quarter(const uint8_t *sheet, size_t length);
+
+/* The same under codes 11 to 15, the incentive component over codes 1 to 5: an up price is lifted, or a down price
+   lowered, to the avoided value where that is more extreme than the exact price, and only then rounded. Refusals are
+   those of fumeliosa_quarter. */
+fumeliosa_five_quotes fumeliosa_incentive(const uint8_t *sheet, size_t length);
 
 /* Writes the packed sheet of what a sheet of any bytes tells, and answers how many bytes that takes. A buffer that is
    shorter is left as it was. The two do not overlap. A refused sheet is rewritten too, from what it still tells: with

@@ -1,4 +1,5 @@
-/* Prints the five prices of a packed sheet on standard input, or its refusal, and whether it is rewritten alike. */
+/* Prints the five prices of a packed sheet on standard input, then those with the incentive component, or its refusal,
+   and whether it is rewritten alike. */
 #include <stdio.h>
 #include <string.h>
 
@@ -17,6 +18,15 @@ static void print_quote(int code, fumeliosa_quote quote) {
     printf("%d %c %s%llu.%02llu\n", code, direction, quote.cents < 0 ? "-" : "", size / 100, size % 100);
 }
 
+/* The five quotes, the first of them under the code `first`. */
+static void print_five(int first, fumeliosa_five_quotes quotes) {
+    print_quote(first, quotes.weighted_average);
+    print_quote(first + 1, quotes.combined_automatic);
+    print_quote(first + 2, quotes.combined_all);
+    print_quote(first + 3, quotes.max_min);
+    print_quote(first + 4, quotes.finnish);
+}
+
 int main(void) {
     uint8_t sheet[LONGEST + 1];
     uint8_t again[LONGEST];
@@ -26,12 +36,8 @@ int main(void) {
         return 2;
     }
 
-    const fumeliosa_five_quotes quotes = fumeliosa_quarter(sheet, length);
-    print_quote(1, quotes.weighted_average);
-    print_quote(2, quotes.combined_automatic);
-    print_quote(3, quotes.combined_all);
-    print_quote(4, quotes.max_min);
-    print_quote(5, quotes.finnish);
+    print_five(1, fumeliosa_quarter(sheet, length));
+    print_five(11, fumeliosa_incentive(sheet, length));
 
     const size_t written = fumeliosa_rewrite(sheet, length, again, sizeof again);
     const int alike = written == length && memcmp(sheet, again, length) == 0;
