@@ -1,5 +1,6 @@
 //! The answers of both, side by side.
 
+use crate::ours::Quarter;
 use crate::random::{self, Random};
 use crate::{ours, plain};
 
@@ -10,6 +11,9 @@ pub const LONGEST: usize = 2_977;
 pub struct Seen {
     pub accepted: usize,
     pub refused: [usize; 9],
+    /// Quotes that the incentive component moved: up prices lifted, and down prices lowered.
+    pub lifted: usize,
+    pub lowered: usize,
 }
 
 fn differ(
@@ -34,17 +38,42 @@ fn rewriting(seed: u64, sheet: &[u8], room: usize) -> Result<(), String> {
     Ok(())
 }
 
+fn prices(what: &str, seed: u64, ours: Quarter, plain: Quarter) -> Result<Quarter, String> {
+    if ours != plain {
+        return Err(differ(what, seed, &ours, &plain));
+    }
+    Ok(plain)
+}
+
+impl Seen {
+    fn count(&mut self, alone: &Quarter, layered: &Quarter) {
+        for quote in alone.quotes {
+            self.refused[usize::from(quote.refusal)] += 1;
+        }
+        self.accepted += usize::from(!(1..=6).contains(&alone.quotes[0].refusal));
+        for (below, quote) in alone.quotes.iter().zip(&layered.quotes) {
+            self.lifted += usize::from(quote.cents > below.cents);
+            self.lowered += usize::from(quote.cents < below.cents);
+        }
+    }
+}
+
 fn sheet(seed: u64, seen: &mut Seen) -> Result<(), String> {
     let mut random = Random::new(seed);
     let bytes = random::any(&mut random);
-    let (ours, plain) = (ours::quarter(&bytes), plain::quarter(&bytes));
-    if ours != plain {
-        return Err(differ("five prices", seed, &ours, &plain));
-    }
-    for quote in plain.quotes {
-        seen.refused[usize::from(quote.refusal)] += 1;
-    }
-    seen.accepted += usize::from(!(1..=6).contains(&plain.quotes[0].refusal));
+    let alone = prices(
+        "five prices",
+        seed,
+        ours::quarter(&bytes),
+        plain::quarter(&bytes),
+    )?;
+    let layered = prices(
+        "five prices with the incentive component",
+        seed,
+        ours::incentive(&bytes),
+        plain::incentive(&bytes),
+    )?;
+    seen.count(&alone, &layered);
     rewriting(seed, &bytes, LONGEST + 3)?;
     // A buffer that is too short, or just long enough.
     let len = plain::rewrite(&bytes, &mut []);

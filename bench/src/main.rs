@@ -8,6 +8,7 @@ mod random;
 mod timing;
 
 use compare::LONGEST;
+use ours::Quarter;
 use random::{Kind, Random};
 use std::hint::black_box;
 use std::process::ExitCode;
@@ -27,6 +28,10 @@ fn compared(count: u64) -> Result<(), String> {
         seen.accepted
     );
     println!("  quotes by refusal, 0 to 8: {:?}", seen.refused);
+    println!(
+        "  prices that the incentive component lifted: {}, lowered: {}",
+        seen.lifted, seen.lowered
+    );
     compare::days(DAYS)?;
     println!("{DAYS} days in the book: the same payments and refusals");
     Ok(())
@@ -44,23 +49,33 @@ fn pool(kind: Kind) -> Vec<Vec<u8>> {
         .collect()
 }
 
-fn time_sheets(kind: Kind, name: &str) {
-    let pool = pool(kind);
-    let prices = side_by_side(
+fn time_prices(
+    pool: &[Vec<u8>],
+    ours: impl Fn(&[u8]) -> Quarter,
+    plain: impl Fn(&[u8]) -> Quarter,
+) -> Pair {
+    side_by_side(
         ROUNDS,
         POOL,
         || {
-            for sheet in &pool {
-                black_box(ours::quarter(black_box(sheet)));
+            for sheet in pool {
+                black_box(ours(black_box(sheet)));
             }
         },
         || {
-            for sheet in &pool {
-                black_box(plain::quarter(black_box(sheet)));
+            for sheet in pool {
+                black_box(plain(black_box(sheet)));
             }
         },
-    );
+    )
+}
+
+fn time_sheets(kind: Kind, name: &str) {
+    let pool = pool(kind);
+    let prices = time_prices(&pool, ours::quarter, plain::quarter);
     show(&format!("decode and five prices, {name}"), &prices);
+    let layered = time_prices(&pool, ours::incentive, plain::incentive);
+    show(&format!("decode and five with incentive, {name}"), &layered);
     let (mut a, mut b) = ([0; LONGEST], [0; LONGEST]);
     let rewriting = side_by_side(
         ROUNDS,
@@ -157,6 +172,7 @@ fn measured() -> Result<(), String> {
     });
     let pricing = memory::allocated(|| {
         black_box(ours::quarter(&sheet));
+        black_box(ours::incentive(&sheet));
     });
     let writing = memory::allocated(|| {
         black_box(ours::rewrite(&sheet, &mut out));

@@ -11,7 +11,7 @@ pub struct Quote {
     pub cents: i64,
 }
 
-/// The quotes of codes 1 to 5.
+/// The quotes under the five rulebooks, in the order of their codes.
 #[repr(C)]
 #[derive(Clone, Copy, Debug, PartialEq, Eq)]
 pub struct Quarter {
@@ -29,6 +29,7 @@ pub struct Day {
 
 extern "C" {
     fn fumeliosa_quarter(bytes: *const u8, len: usize) -> Quarter;
+    fn fumeliosa_incentive(bytes: *const u8, len: usize) -> Quarter;
     fn fumeliosa_rewrite(bytes: *const u8, len: usize, out: *mut u8, out_len: usize) -> usize;
     fn fumeliosa_bench_day(
         sheets: *const u8,
@@ -46,6 +47,11 @@ extern "C" {
 pub fn quarter(sheet: &[u8]) -> Quarter {
     // SAFETY: the function reads the slice and nothing else.
     unsafe { fumeliosa_quarter(sheet.as_ptr(), sheet.len()) }
+}
+
+pub fn incentive(sheet: &[u8]) -> Quarter {
+    // SAFETY: the function reads the slice and nothing else.
+    unsafe { fumeliosa_incentive(sheet.as_ptr(), sheet.len()) }
 }
 
 pub fn rewrite(sheet: &[u8], out: &mut [u8]) -> usize {

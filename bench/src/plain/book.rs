@@ -1,7 +1,7 @@
 //! The area's book.
 
 use super::figures::Figures;
-use super::prices::{self, Answer};
+use super::prices::{self, Answer, Terms};
 use super::sheet::Sheet;
 
 const LIMIT: i64 = 5_000_000;
@@ -125,7 +125,7 @@ impl Book {
             number: 7,
             place: fault.slot,
         })?;
-        match prices::finnish(&figures) {
+        match prices::finnish(&figures, Terms::Alone) {
             Answer::NoAvoidedValue => Err(Refusal {
                 number: 8,
                 place: super::SLOTS,

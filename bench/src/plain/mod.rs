@@ -8,7 +8,7 @@ pub mod sheet;
 
 use crate::ours::{Quarter, Quote};
 use figures::{Figures, Unreported};
-use prices::Answer;
+use prices::{Answer, Terms};
 use sheet::{Fault, Sheet};
 
 pub const SLOTS: usize = 228;
@@ -51,7 +51,7 @@ fn plain_quote(answer: Answer) -> Quote {
     }
 }
 
-pub fn quarter(bytes: &[u8]) -> Quarter {
+fn quoted(bytes: &[u8], terms: Terms) -> Quarter {
     let sheet = Sheet::decode(bytes);
     if let Some(Fault { number, place }) = sheet.fault {
         return Quarter {
@@ -60,12 +60,22 @@ pub fn quarter(bytes: &[u8]) -> Quarter {
     }
     match Figures::of(&sheet) {
         Ok(figures) => Quarter {
-            quotes: prices::five(&figures).map(plain_quote),
+            quotes: prices::five(&figures, terms).map(plain_quote),
         },
         Err(Unreported { slot }) => Quarter {
             quotes: [refused(7, slot); 5],
         },
     }
+}
+
+/// The quotes of codes 1 to 5.
+pub fn quarter(bytes: &[u8]) -> Quarter {
+    quoted(bytes, Terms::Alone)
+}
+
+/// The quotes of codes 11 to 15.
+pub fn incentive(bytes: &[u8]) -> Quarter {
+    quoted(bytes, Terms::WithIncentive)
 }
 
 /// Writes what the sheet tells, and answers the length; a buffer that is too short is left as it was.

@@ -1,4 +1,4 @@
-//! The five rulebooks and the rounded price.
+//! The five rulebooks, the incentive component over them, and the rounded price.
 
 use super::figures::{Direction, Figures, Side};
 
@@ -89,6 +89,18 @@ impl Side {
     }
 }
 
+/// What a rulebook decides: a direction with its exact price, or the avoided activation.
+type Ruling = Option<(Direction, Fraction)>;
+
+/// Under which terms the rulebooks are asked.
+#[derive(Clone, Copy, Debug, PartialEq, Eq)]
+pub enum Terms {
+    /// Codes 1 to 5.
+    Alone,
+    /// The incentive component over each: codes 11 to 15.
+    WithIncentive,
+}
+
 fn toward(net: i64) -> Option<Direction> {
     match net {
         1.. => Some(Direction::Up),
@@ -97,7 +109,14 @@ fn toward(net: i64) -> Option<Direction> {
     }
 }
 
-fn answer(figures: &Figures, ruling: Option<(Direction, Fraction)>) -> Answer {
+/// The exact price is lifted, or lowered, to the avoided value where that is more extreme.
+fn with_incentive(ruling: Ruling, avoided: Option<i32>) -> Ruling {
+    let (direction, price) = ruling?;
+    let price = extreme(direction, Some(price), avoided.map(Fraction::from))?;
+    Some((direction, price))
+}
+
+fn answer(figures: &Figures, ruling: Ruling) -> Answer {
     match (ruling, figures.avoided) {
         (Some((Direction::Up, price)), _) => Answer::Up(price.rounded()),
         (Some((Direction::Down, price)), _) => Answer::Down(price.rounded()),
@@ -109,16 +128,21 @@ fn answer(figures: &Figures, ruling: Option<(Direction, Fraction)>) -> Answer {
 /// The price in the direction of a net, by the components of that side.
 fn decide(
     figures: &Figures,
+    terms: Terms,
     net: i64,
     price: impl Fn(Direction, &Side) -> Option<Fraction>,
 ) -> Answer {
     let ruling = toward(net)
         .and_then(|direction| Some((direction, price(direction, figures.side(direction))?)));
-    answer(figures, ruling)
+    match terms {
+        Terms::Alone => answer(figures, ruling),
+        Terms::WithIncentive => answer(figures, with_incentive(ruling, figures.avoided)),
+    }
 }
 
-pub fn finnish(figures: &Figures) -> Answer {
-    decide(figures, i64::from(figures.zone_net), |direction, side| {
+pub fn finnish(figures: &Figures, terms: Terms) -> Answer {
+    let net = i64::from(figures.zone_net);
+    decide(figures, terms, net, |direction, side| {
         if side.manual_counts() {
             side.weighted_mean()
         } else {
@@ -131,32 +155,32 @@ pub fn finnish(figures: &Figures) -> Answer {
     })
 }
 
-/// Codes 1 to 5.
-pub fn five(figures: &Figures) -> [Answer; 5] {
+/// The five rulebooks, in the order of their codes.
+pub fn five(figures: &Figures, terms: Terms) -> [Answer; 5] {
     let net = figures.local_net;
     [
-        decide(figures, net, |_, side| side.weighted_mean()),
-        decide(figures, net, |direction, side| {
+        decide(figures, terms, net, |_, side| side.weighted_mean()),
+        decide(figures, terms, net, |direction, side| {
             extreme(
                 direction,
                 side.automatic_mean(),
                 side.manual_extreme(direction, true),
             )
         }),
-        decide(figures, net, |direction, side| {
+        decide(figures, terms, net, |direction, side| {
             extreme(
                 direction,
                 side.weighted_mean(),
                 side.manual_extreme(direction, true),
             )
         }),
-        decide(figures, net, |direction, side| {
+        decide(figures, terms, net, |direction, side| {
             extreme(
                 direction,
                 side.extreme.map(Fraction::from),
                 side.manual_extreme(direction, true),
             )
         }),
-        finnish(figures),
+        finnish(figures, terms),
     ]
 }
