@@ -140,7 +140,10 @@ fn timed() {
             &time_day(PERIODS, kind),
         );
     }
-    for (kind, name) in [(Kind::Mixed, "periods, mixed slots"), (Kind::Steady, "periods, steady slots")] {
+    for (kind, name) in [
+        (Kind::Mixed, "periods, mixed slots"),
+        (Kind::Steady, "periods, steady slots"),
+    ] {
         println!(
             "\n{name:<24} {:>9} {:>9} {:>7} {:>15} {:>16}",
             "ours", "plain", "ratio", "ours per period", "plain per period"

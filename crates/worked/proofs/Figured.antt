@@ -13,7 +13,7 @@ use Rattle.source.specs.declared.slot.TheConstants.{SLOTS}
 use Rattle.units.specs.Exact.{Exact}
 use Rattle.units.specs.Rounding.{rounded}
 use Rattle.units.specs.declared.price.Price.{Price}
-use Rattle.worked.specs.Cases.{LacksAvoidedValue, IsQuotedAs}
+use Rattle.worked.specs.Cases.{LacksAvoidedValue, IsDecidedUp, IsQuotedAs}
 
 abbrev pub Reports : Meaning → Type 0
 Reports m = ReportedTo m.slots SLOTS
@@ -30,6 +30,9 @@ figured m h = record {
   down = side_of Down m.slots;
   given = ∣ (m, given m h) ∣₁;
 }
+
+pub decided_up : (m : Meaning) (h : Reports m) (ruling : Figures → Outcome) (x : Exact) → ruling (figured m h) ≡ directed Up x → IsDecidedUp m ruling x
+decided_up m h ruling x e = (figured m h, given m h, e)
 
 pub by_direction : (m : Meaning) (h : Reports m) (code : ℕ) (ruling : Figures → Outcome) (d : Direction) (x : Exact) (p : Price) → ruling (figured m h) ≡ directed d x → p.cents ≡ rounded x.n x.d → IsQuotedAs m code ruling (quoted_direction d) p.cents
 by_direction m h code ruling d x p e r =

@@ -33,9 +33,9 @@ quarter readings net value = record {
   avoided = option_and_then (λ cents. result_ok (price_of cents)) value;
 }
 
--- cycles at 100,000 kW, a third of them each at 200, 400 and 700; 300,000 kW scheduled at 100, 100,000 kW direct at 1000
-abbrev pub three_levels : Meaning
-three_levels =
+-- cycles at 100,000 kW, a third of them each at 200, 400 and 700; 300,000 kW scheduled at 100, 100,000 kW direct at 1000; with this avoided value
+abbrev pub three_levels_with : ℤ → Meaning
+three_levels_with value =
     quarter
     (λ k.
     if nat_lt k 75 then upward (pos 100_000) (pos 20_000)
@@ -45,7 +45,11 @@ three_levels =
     else if k == DIRECT_UP then upward (pos 100_000) (pos 100_000)
     else idle)
     (pos 400_000)
-    (Some (pos 5_000))
+    (Some value)
+
+-- these three levels with an avoided value of 50.00
+abbrev pub three_levels : Meaning
+three_levels = three_levels_with (pos 5_000)
 
 -- cycles at 80,000 kW and 100, 200,000 kW scheduled at 50
 abbrev pub manual_activated : Meaning
@@ -57,6 +61,17 @@ manual_activated =
     else idle)
     (pos 200_000)
     None
+
+-- cycles at -80,000 kW and 30, -200,000 kW scheduled at 10; with this avoided value
+abbrev pub manual_activated_down : ℤ → Meaning
+manual_activated_down value =
+    quarter
+    (λ k.
+    if nat_lt k CYCLES then downward (negsuc 79_999) (pos 3_000)
+    else if k == SCHEDULED then downward (negsuc 199_999) (pos 1_000)
+    else idle)
+    (negsuc 199_999)
+    (Some value)
 
 -- cycles at 200,000 kW and 50, a scheduled price of 100 without demand
 abbrev pub manual_formed : Meaning

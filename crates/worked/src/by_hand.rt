@@ -11,16 +11,31 @@ pub struct FivePrices {
     pub finnish: i64,
 }
 
+/// Prices with the incentive component, in cents per MWh: of the quarter of three levels at three avoided values, of a
+/// down quarter and of a balanced one.
+#[derive(Clone, Copy)]
+pub struct IncentivePrices {
+    pub unchanged_by_346_66: i64,
+    pub lifted_to_346_67: i64,
+    pub lifted_to_500: i64,
+    pub max_min_unchanged_by_500: i64,
+    pub lifted_to_500_by_two_layers: i64,
+    pub lowered_to_minus_5: i64,
+    pub balanced: i64,
+}
+
 /// Prices in cents per MWh, payments in cents, and the bytes and the refusal of stored numbers.
 #[derive(Clone, Copy)]
 pub struct WorkedFigures {
     pub three_levels: FivePrices,
     pub manual_activated_finnish: i64,
+    pub manual_activated_down_finnish: i64,
     pub manual_formed_finnish: i64,
     pub manual_formed_weighted_average: i64,
     pub half_a_cent: i64,
     pub half_a_cent_below_zero: i64,
     pub balanced: i64,
+    pub incentive: IncentivePrices,
     pub first_half_cent: i64,
     pub second_half_cent: i64,
     pub surplus: i64,
@@ -45,11 +60,21 @@ pub fn figures_worked_by_hand() -> WorkedFigures
             finnish: 34_667,
         },
         manual_activated_finnish: 6_429,
+        manual_activated_down_finnish: 1_571,
         manual_formed_finnish: 10_000,
         manual_formed_weighted_average: 5_000,
         half_a_cent: 1,
         half_a_cent_below_zero: -1,
         balanced: 700,
+        incentive: IncentivePrices {
+            unchanged_by_346_66: 34_667,
+            lifted_to_346_67: 34_667,
+            lifted_to_500: 50_000,
+            max_min_unchanged_by_500: 100_000,
+            lifted_to_500_by_two_layers: 50_000,
+            lowered_to_minus_5: -500,
+            balanced: 700,
+        },
         first_half_cent: 1,
         second_half_cent: 0,
         surplus: 18_750,
