@@ -39,7 +39,7 @@ fn compared(count: u64) -> Result<(), String> {
 
 fn show(what: &str, pair: &Pair) {
     let (ours, plain) = (pair.ours / 1000.0, pair.plain / 1000.0);
-    println!("{what:<44} {ours:>9.2} {plain:>9.2} {:>7.2}", pair.ratio());
+    println!("{what:<66} {ours:>9.2} {plain:>9.2} {:>7.2}", pair.ratio());
 }
 
 fn pool(kind: Kind) -> Vec<Vec<u8>> {
@@ -75,7 +75,10 @@ fn time_sheets(kind: Kind, name: &str) {
     let prices = time_prices(&pool, ours::quarter, plain::quarter);
     show(&format!("decode and five prices, {name}"), &prices);
     let layered = time_prices(&pool, ours::incentive, plain::incentive);
-    show(&format!("decode and five with incentive, {name}"), &layered);
+    show(
+        &format!("decode and five prices with the incentive component, {name}"),
+        &layered,
+    );
     let (mut a, mut b) = ([0; LONGEST], [0; LONGEST]);
     let rewriting = side_by_side(
         ROUNDS,
@@ -130,7 +133,7 @@ fn time_day(periods: usize, kind: Kind) -> Pair {
 
 fn timed() {
     println!(
-        "\n{:<44} {:>9} {:>9} {:>7}",
+        "\n{:<66} {:>9} {:>9} {:>7}",
         "microseconds, median of rounds", "ours", "plain", "ratio"
     );
     for (kind, name) in [(Kind::Mixed, "mixed slots"), (Kind::Steady, "steady slots")] {
