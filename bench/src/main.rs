@@ -5,11 +5,13 @@ mod memory;
 mod ours;
 mod plain;
 mod random;
+mod rows;
 mod timing;
 
 use compare::LONGEST;
 use ours::Quarter;
 use random::{Kind, Random};
+use rows::tell;
 use std::hint::black_box;
 use std::process::ExitCode;
 use timing::{side_by_side, Pair};
@@ -35,11 +37,6 @@ fn compared(count: u64) -> Result<(), String> {
     compare::days(DAYS)?;
     println!("{DAYS} days in the book: the same payments and refusals");
     Ok(())
-}
-
-fn show(what: &str, pair: &Pair) {
-    let (ours, plain) = (pair.ours / 1000.0, pair.plain / 1000.0);
-    println!("{what:<66} {ours:>9.2} {plain:>9.2} {:>7.2}", pair.ratio());
 }
 
 fn pool(kind: Kind) -> Vec<Vec<u8>> {
@@ -73,9 +70,9 @@ fn time_prices(
 fn time_sheets(kind: Kind, name: &str) {
     let pool = pool(kind);
     let prices = time_prices(&pool, ours::quarter, plain::quarter);
-    show(&format!("decode and five prices, {name}"), &prices);
+    tell(&format!("decode and five prices, {name}"), &prices);
     let layered = time_prices(&pool, ours::incentive, plain::incentive);
-    show(
+    tell(
         &format!("decode and five prices with the incentive component, {name}"),
         &layered,
     );
@@ -94,7 +91,7 @@ fn time_sheets(kind: Kind, name: &str) {
             }
         },
     );
-    show(&format!("decode and write, {name}"), &rewriting);
+    tell(&format!("decode and write, {name}"), &rewriting);
 }
 
 fn time_day(periods: usize, kind: Kind) -> Pair {
@@ -131,18 +128,17 @@ fn time_day(periods: usize, kind: Kind) -> Pair {
     )
 }
 
-fn timed() {
-    println!(
-        "\n{:<66} {:>9} {:>9} {:>7}",
-        "microseconds, median of rounds", "ours", "plain", "ratio"
-    );
+fn time_rows() {
     for (kind, name) in [(Kind::Mixed, "mixed slots"), (Kind::Steady, "steady slots")] {
         time_sheets(kind, name);
-        show(
+        tell(
             &format!("a day of 100 periods, 32 parties, {name}"),
             &time_day(PERIODS, kind),
         );
     }
+}
+
+fn time_periods() {
     for (kind, name) in [
         (Kind::Mixed, "periods, mixed slots"),
         (Kind::Steady, "periods, steady slots"),
@@ -190,15 +186,33 @@ fn measured() -> Result<(), String> {
     Ok(())
 }
 
-fn main() -> ExitCode {
-    let count = std::env::args()
-        .nth(1)
-        .and_then(|word| word.parse().ok())
-        .unwrap_or(SHEETS);
-    if let Err(difference) = compared(count).and_then(|()| measured()) {
-        eprintln!("{difference}");
-        return ExitCode::FAILURE;
+/// What `bench/run` asks for: the comparison, or a part of the timing.
+fn done(mut words: impl Iterator<Item = String>) -> Result<(), String> {
+    match words.next().as_deref() {
+        Some("compare") => {
+            let count = words.next().map_or(Ok(SHEETS), |word| word.parse());
+            compared(count.map_err(|_| "how many sheets is a number")?)?;
+            measured()
+        }
+        Some("rows") => {
+            time_rows();
+            Ok(())
+        }
+        Some("table") => rows::table(),
+        Some("periods") => {
+            time_periods();
+            Ok(())
+        }
+        _ => Err("compare [COUNT], rows, table or periods: see bench/run".into()),
     }
-    timed();
-    ExitCode::SUCCESS
+}
+
+fn main() -> ExitCode {
+    match done(std::env::args().skip(1)) {
+        Ok(()) => ExitCode::SUCCESS,
+        Err(difference) => {
+            eprintln!("{difference}");
+            ExitCode::FAILURE
+        }
+    }
 }
