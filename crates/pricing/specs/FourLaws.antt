@@ -49,7 +49,7 @@ abbrev pub IsFromFormedTo : Option Price → Figures → Outcome → Type 0
 IsFromFormedTo v f avoided = ⊤
 IsFromFormedTo v f (directed d q) = LiesWithin (outer_span d v (side_in d f).formed) q
 
--- 3: where a direction is given, N / D lies between the least extreme price formed in it and the extreme of the formed prices and the avoided value
+-- 3: where a direction is given, a price is formed in it, D is from 1 to 9,000,000,000, and N / D lies between the least extreme of the formed prices and the extreme of them and the avoided value
 abbrev pub IsFromFormedOrAvoided : Figures → Outcome → Type 0
 IsFromFormedOrAvoided f o = IsFromFormedTo f.avoided f o
 

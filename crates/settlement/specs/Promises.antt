@@ -42,7 +42,7 @@ pub record RightPrice (f : Filing) (x : Quarter) : Type 0 where
   pub gives : AreFiguresOf f.source figures
   pub stands : StandsFor (f.rules.ruling figures) f.source.avoided quote
 
--- up: at most half a cent below the weighted mean of what counts, not above both the highest price formed and the avoided value; down mirrors it
+-- up: at most half a cent below the weighted mean of what counts, not above the greatest of the prices formed and the avoided value; down mirrors it
 abbrev pub WithinBounds : QuoteDirection → Meaning → ℤ → Type 0
 WithinBounds Up m p = IsBounded dir.Up (side_of dir.Up m.slots) m.avoided p
 WithinBounds Down m p = IsBounded dir.Down (side_of dir.Down m.slots) m.avoided p
