@@ -12,11 +12,10 @@ use Rattle.units.specs.Exact.{Exact}
 use Rattle.units.proofs.Rounds.{keeps_bounds, nearest_rounded}
 use Rattle.units.specs.Rounding.{Nearest, rounded}
 use Rattle.units.specs.declared.price.Price.{Price}
-use Rattle.pricing.specs.Bounds.{IsBoundedIn, IsBoundedQuote, IsBoundedTo, HalfCentFromMean}
-use Rattle.pricing.specs.FourLaws.{IsFromFormedTo, IsNoLessExtremeThanMean, IsNoMoreExtreme, KeepsLaws, LiesWithin, outer_span}
+use Rattle.pricing.specs.Bounds.{IsBoundedQuote, IsBoundedTo, HalfCentFromMean}
+use Rattle.pricing.specs.FourLaws.{IsFromFormedTo, IsNoLessExtremeThanMean, IsNoMoreExtreme, LiesWithin, outer_span}
 use Rattle.pricing.specs.Outcomes.{Outcome, avoided, directed}
-use Rattle.pricing.specs.Quotes.{Answer, IsQuote, IsQuoteAt, quoted_direction}
-use Rattle.pricing.specs.declared.ruling.Net.{Net}
+use Rattle.pricing.specs.Quotes.{Answer, IsQuote, quoted_direction}
 use Rattle.pricing.specs.laws.Reach.{cross}
 
 -- n / d is at most half a cent above p, and at most half a cent below
@@ -43,29 +42,19 @@ formed_within d (Some v) None h = h
 formed_within d (Some v) (Some s) h = refl
 
 -- a price that is rounded keeps the bounds of the exact one, as far as v
-pub bounded_to : (v : Option Price) (f : Figures) (o : Outcome) (d : Direction) (q : Exact) (p : Price) → IsFromFormedTo v f o → IsNoLessExtremeThanMean f o → directed d q ≡ o → Nearest q.n q.d p.cents
-    → ((low high : ℤ) → (low *ℤ pos q.d) ≤ℤ q.n → q.n ≤ℤ (high *ℤ pos q.d) → (low ≤ℤ p.cents) × (p.cents ≤ℤ high)) → IsBoundedTo v (quoted_direction d) f p
-bounded_to v f o d q p within mean e near keeps =
+directed_bounded : (v : Option Price) (f : Figures) (d : Direction) (q : Exact) (p : Price) → LiesWithin (outer_span d v (side_in d f).formed) q → IsNoMoreExtreme d (turnover (side_in d f) *ℤ pos q.d) (q.n *ℤ pos (volume (side_in d f)))
+    → p.cents ≡ rounded q.n q.d → IsBoundedTo v (quoted_direction d) f p
+directed_bounded v f d q p within mean at =
     let outer = outer_span d v (side_in d f).formed in
-    grind (arith, within, mean, formed_within d v (side_in d f).formed, half_cent_lem d (side_in d f) q p.cents, keeps (lowest_cents outer) (highest_cents outer))
-
-pub quote_bounded : (net : Net) (f : Figures) (o : Outcome) (d : Direction) (q : Exact) (p : Price) → KeepsLaws net f o → directed d q ≡ o → Nearest q.n q.d p.cents
-    → ((low high : ℤ) → (low *ℤ pos q.d) ≤ℤ q.n → q.n ≤ℤ (high *ℤ pos q.d) → (low ≤ℤ p.cents) × (p.cents ≤ℤ high)) → IsBoundedIn (quoted_direction d) f p
-quote_bounded net f o d q p laws e near keeps = bounded_to f.avoided f o d q p laws.formed laws.mean e near keeps
+    let near = subst (λ (z : ℤ). Nearest q.n q.d z) (sym at) (nearest_rounded q.n q.d within.divides) in
+    let kept = subst (λ (z : ℤ). (lowest_cents outer ≤ℤ z) × (z ≤ℤ highest_cents outer)) (sym at) (keeps_bounds q.n q.d (lowest_cents outer) (highest_cents outer) within.divides within.low within.high) in
+    grind (arith, kept, within.formed, formed_within d v (side_in d f).formed, half_cent_lem d (side_in d f) q p.cents within.divides near mean)
 
 -- a quote of what is decided lies in its bounds, as far as v
 pub quote_in_bounds : (v : Option Price) (code : ℕ) (f : Figures) (o : Outcome) (r : Answer) → IsFromFormedTo v f o → IsNoLessExtremeThanMean f o → IsQuote code o f.avoided r → IsBoundedQuote v f r
-quote_in_bounds v code f o r within mean h = by_outcome o f.avoided r within mean refl h
+quote_in_bounds v code f o r within mean h = by_outcome o f.avoided within mean refl h
   where
-    directed_bounded : (d : Direction) (q : Exact) (r : Answer) → LiesWithin (outer_span d v (side_in d f).formed) q → IsNoMoreExtreme d (turnover (side_in d f) *ℤ pos q.d) (q.n *ℤ pos (volume (side_in d f)))
-        → IsQuoteAt code (quoted_direction d) (rounded q.n q.d) r → IsBoundedQuote v f r
-    directed_bounded d q r within mean h =
-        subst (IsBoundedQuote v f) (sym h.is)
-        (bounded_to v f (directed d q) d q h.price within mean refl
-        (subst (λ (z : ℤ). Nearest q.n q.d z) (sym h.at) (nearest_rounded q.n q.d within.divides))
-        (λ low high l g. subst (λ (z : ℤ). (low ≤ℤ z) × (z ≤ℤ high)) (sym h.at) (keeps_bounds q.n q.d low high within.divides l g)))
-
-    by_outcome : (o : Outcome) (a : Option Price) (r : Answer) → IsFromFormedTo v f o → IsNoLessExtremeThanMean f o → f.avoided ≡ a → IsQuote code o a r → IsBoundedQuote v f r
-    by_outcome (directed d q) a r within mean e h = directed_bounded d q r within mean h
-    by_outcome avoided (Some p) r within mean e h = subst (IsBoundedQuote v f) (sym h) e
-    by_outcome avoided None r within mean e h = subst (IsBoundedQuote v f) (sym h) tt
+    by_outcome : (o : Outcome) (a : Option Price) → IsFromFormedTo v f o → IsNoLessExtremeThanMean f o → f.avoided ≡ a → IsQuote code o a r → IsBoundedQuote v f r
+    by_outcome (directed d q) a within mean e h = subst (IsBoundedQuote v f) (sym h.is) (directed_bounded v f d q h.price within mean h.at)
+    by_outcome avoided (Some p) within mean e h = subst (IsBoundedQuote v f) (sym h) e
+    by_outcome avoided None within mean e h = subst (IsBoundedQuote v f) (sym h) tt

@@ -33,10 +33,6 @@ IsBoundedTo v Up f p = IsBounded dir.Up f.up v p.cents
 IsBoundedTo v Down f p = IsBounded dir.Down f.down v p.cents
 IsBoundedTo v Avoided f p = f.avoided ≡ Some p
 
--- a quote's price lies in the bounds of its direction, as far as the avoided value; under A it is that
-abbrev pub IsBoundedIn : QuoteDirection → Figures → Price → Type 0
-IsBoundedIn d f p = IsBoundedTo f.avoided d f p
-
 -- an answer for figures: where it is a quote, that lies in its bounds, as far as v
 abbrev pub IsBoundedQuote : Option Price → Figures → Answer → Type 0
 IsBoundedQuote v f a = IfOk a (λ q. IsBoundedTo v q.direction f q.price)

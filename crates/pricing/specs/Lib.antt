@@ -1,6 +1,6 @@
 -- What a rulebook decides, the rule of each of the five, the laws that every rulebook keeps, and the incentive component over
--- any of them; then the quote of a source, the bounds of a quote, and the quotes of the five. Last the refusals. The steps are cited by private functions alone, and
--- the laws have lemmas.
+-- any of them; then the quote of a source, the bounds of a quote, and the quotes of the five. Last the refusals. The steps are
+-- cited by private functions alone, and the laws have lemmas.
 pub mod Outcomes
 pub mod Rulings
 pub mod FourLaws

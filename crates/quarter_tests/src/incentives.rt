@@ -1,7 +1,7 @@
 // Quarters priced by hand with the incentive component over codes 1 to 5.
 use crate::bytes::Bytes;
-use crate::bytes::Formed::{Down, Up};
-use crate::quarters::three_levels;
+use crate::bytes::Formed::Down;
+use crate::quarters::{balanced, three_levels};
 use pricing::Terms;
 use std::test::Fail;
 
@@ -75,11 +75,7 @@ fn balanced_with_the_incentive(rt: HostRuntime) -> Result<(), Fail> {
         (None, "11 ! 8\n12 ! 8\n13 ! 8\n14 ! 8\n15 ! 8\n"),
     ];
     for (avoided, lines) in cases {
-        let mut bytes = Bytes::head(rt.alloc(), 0, avoided)?;
-        bytes.priced(Up, 1, 1, 1_000)?;
-        bytes.priced(Down, 1, -1, 500)?;
-        bytes.idle(226)?;
-        let printed = bytes.printed_under(Terms::WithIncentive)?;
+        let printed = balanced(rt.alloc(), avoided)?.printed_under(Terms::WithIncentive)?;
         assert_eq!(rt; printed.as_str(), lines, "at {avoided:?}");
     }
     Ok(())

@@ -76,6 +76,15 @@ fn half_cents(rt: HostRuntime) -> Result<(), Fail> {
     Ok(())
 }
 
+// Demand both ways with a net of 0.
+pub(crate) fn balanced(heap: Global, avoided: Option<i32>) -> Result<Bytes, AllocError> {
+    let mut bytes = Bytes::head(heap, 0, avoided)?;
+    bytes.priced(Up, 1, 1, 1_000)?;
+    bytes.priced(Down, 1, -1, 500)?;
+    bytes.idle(226)?;
+    Ok(bytes)
+}
+
 #[test]
 fn balanced_quarter(rt: HostRuntime) -> Result<(), Fail> {
     let cases = [
@@ -86,10 +95,7 @@ fn balanced_quarter(rt: HostRuntime) -> Result<(), Fail> {
         (None, "1 ! 8\n2 ! 8\n3 ! 8\n4 ! 8\n5 ! 8\n"),
     ];
     for (avoided, lines) in cases {
-        let mut bytes = Bytes::head(rt.alloc(), 0, avoided)?;
-        bytes.priced(Up, 1, 1, 1_000)?;
-        bytes.priced(Down, 1, -1, 500)?;
-        bytes.idle(226)?;
+        let bytes = balanced(rt.alloc(), avoided)?;
         assert_eq!(rt; bytes.printed()?.as_str(), lines, "at {avoided:?}");
     }
     Ok(())

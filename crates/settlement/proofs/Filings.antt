@@ -1,12 +1,12 @@
 -- The quote of a lawful rulebook is within half a cent of its exact price, and within its bounds.
-use Rattle.std.proofs.Common.{◌≡◌, ℕ, ℤ, ◌≤ℤ◌, Some, None, Ok, Option, sym, refl, ap, ◌∙◌, subst, arith}
+use Rattle.std.proofs.Common.{◌≡◌, ℕ, ℤ, Some, None, Ok, Option, sym, ap, ◌∙◌, subst, arith}
 use borrow.Author.Differences.{ints}
 use Rattle.figures.specs.Gathering.{AreFiguresOf}
 use Rattle.figures.specs.Sides.{side_of}
 use Rattle.figures.specs.declared.quarter_figures.Figures.{Figures}
 use Rattle.figures.specs.declared.side.Side.{Side}
-use Rattle.pricing.proofs.Bounding.{quote_bounded}
-use Rattle.pricing.specs.Bounds.{IsBounded, IsBoundedIn}
+use Rattle.pricing.proofs.Bounding.{quote_in_bounds}
+use Rattle.pricing.specs.Bounds.{IsBounded, IsBoundedTo}
 use Rattle.pricing.specs.FourLaws.{KeepsLaws}
 use Rattle.pricing.specs.Outcomes.{Outcome, avoided, directed}
 use Rattle.pricing.specs.Quotes.{IsQuote, IsQuoteOfSource, quoted_direction}
@@ -17,9 +17,9 @@ use Rattle.pricing.specs.declared.ruling.Net.{Net}
 use Rattle.source.specs.Meanings.{Meaning}
 use Rattle.source.specs.declared.direction.Direction.{Direction}
 use Rattle.source.specs.declared.direction.Direction.TheVariants as dir
-use Rattle.units.proofs.Rounds.{keeps_bounds, nearest_rounded}
+use Rattle.units.proofs.Rounds.{nearest_rounded}
 use Rattle.units.specs.Exact.{Exact}
-use Rattle.units.specs.Rounding.{Nearest, rounded}
+use Rattle.units.specs.Rounding.{rounded}
 use Rattle.units.specs.declared.price.Price.{Price}
 use Rattle.settlement.specs.Answers.{IsLawfulRulebook, Rules}
 use Rattle.settlement.specs.Promises.{RightPrice, StandsFor, WithinBounds}
@@ -51,24 +51,13 @@ stands_for code net f avoided (Some v) q laws h =
     (cc, record { divides = omega arith; close = rw e (omega (arith, ints)) })
 stands_for code net f avoided None q laws h = never q _ h
 
-bounded_by : (code : ℕ) (net : Net) (f : Figures) (o : Outcome) (a : Option Price) (q : Quote) → KeepsLaws net f o → IsQuote code o a (Ok q) → (q.direction ≡ Avoided → ⊥) → IsBoundedIn q.direction f q.price
-bounded_by code net f (directed d x) a q laws h n =
-    let s = rounds code d x a q h in
-    let some = laws.formed.divides in
-    subst (λ (e : QuoteDirection). IsBoundedIn e f q.price) (sym s.0)
-    (quote_bounded net f (directed d x) d x q.price laws refl
-    (subst (λ (z : ℤ). Nearest x.n x.d z) (sym s.1) (nearest_rounded x.n x.d some))
-    (λ low high l g. subst (λ (z : ℤ). (low ≤ℤ z) × (z ≤ℤ high)) (sym s.1) (keeps_bounds x.n x.d low high some l g)))
-bounded_by code net f avoided (Some v) q laws h n = absurd (n cc)
-bounded_by code net f avoided None q laws h n = never q _ h
-
 bounded_same : (d : Direction) (s t : Side) (v w : Option Price) (p : ℤ) → t ≡ s → w ≡ v → IsBounded d t w p → IsBounded d s v p
 bounded_same d s t v w p e f b = subst (λ x. IsBounded d x v p) e (subst (λ x. IsBounded d t x p) f b)
 
--- the same, by what the source means
-by_meaning : (m : Meaning) (f : Figures) (d : QuoteDirection) (p : Price) → AreFiguresOf m f → ((d ≡ Avoided → ⊥) → IsBoundedIn d f p) → WithinBounds d m p.cents
-by_meaning m f Up p g b = bounded_same dir.Up (side_of dir.Up m.slots) f.up m.avoided f.avoided p.cents g.up_is g.avoided_is (b (λ e. let z : ◌≡◌ {A = ℕ} 0 1 = cc in omega arith))
-by_meaning m f Down p g b = bounded_same dir.Down (side_of dir.Down m.slots) f.down m.avoided f.avoided p.cents g.down_is g.avoided_is (b (λ e. let z : ◌≡◌ {A = ℕ} 0 1 = cc in omega arith))
+-- the bounds for the figures are those by what the source means
+by_meaning : (m : Meaning) (f : Figures) (d : QuoteDirection) (p : Price) → AreFiguresOf m f → IsBoundedTo f.avoided d f p → WithinBounds d m p.cents
+by_meaning m f Up p g b = bounded_same dir.Up (side_of dir.Up m.slots) f.up m.avoided f.avoided p.cents g.up_is g.avoided_is b
+by_meaning m f Down p g b = bounded_same dir.Down (side_of dir.Down m.slots) f.down m.avoided f.avoided p.cents g.down_is g.avoided_is b
 by_meaning m f Avoided p g b = tt
 
 abbrev pub filed : Meaning → Rules → Quarter → Filing
@@ -86,5 +75,6 @@ right m r x q laws e h = record {
 
 pub within_bounds : (m : Meaning) (r : Rules) (q : Quote) → IsLawfulRulebook r → IsQuoteOfSource m r.code r.ruling (Ok q) → WithinBounds q.direction m q.price.cents
 within_bounds m r q laws h =
-    by_meaning m h.figures q.direction q.price h.gives
-    (bounded_by r.code r.net h.figures (r.ruling h.figures) m.avoided q (laws h.figures) h.quotes)
+    let f = h.figures in
+    by_meaning m f q.direction q.price h.gives
+    (quote_in_bounds f.avoided r.code f (r.ruling f) (Ok q) (laws f).formed (laws f).mean (subst (λ v. IsQuote r.code (r.ruling f) v (Ok q)) (sym h.gives.avoided_is) h.quotes))

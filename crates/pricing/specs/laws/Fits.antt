@@ -14,11 +14,11 @@ use Rattle.figures.proofs.Counted.{by_part}
 use Rattle.figures.proofs.Sound.{Between, CyclesAre, ManualSound, Sound}
 use Rattle.source.specs.declared.direction.Direction.{Direction}
 use Rattle.source.specs.declared.direction.Direction.TheVariants.{Up, Down}
-use Rattle.units.specs.Exact.{exact_of_price}
+use Rattle.units.specs.Exact.{Exact, exact_of_price}
 use Rattle.units.specs.declared.bounds.TheConstants.{MOST_DENOMINATOR}
 use Rattle.units.specs.declared.price.Price.{Price}
 use Rattle.pricing.specs.FourLaws.{LiesWithin}
-use Rattle.pricing.specs.laws.Reach.{WhereExists, extreme_keeps}
+use Rattle.pricing.specs.laws.Reach.{Reach, WhereExists, cross, extreme_keeps}
 use Rattle.pricing.specs.laws.Covers.{no_turnover}
 
 -- x / v lies between the least and the greatest price of f, also where v and x are 0
@@ -87,6 +87,11 @@ automatic_fits s h =
 
 whole_fits : (f : Option Span) (p : Price) → Between f p.cents → LiesWithin f (exact_of_price p)
 whole_fits f p b = record { formed = b.0; divides = omega arith; bounded_denominator = omega arith; low = omega (arith, ints, b.1); high = omega (arith, ints, b.2) }
+
+-- a price that is as extreme as one between the lowest and the highest, and no more extreme than all, lies between them too
+pub price_within : (d : Direction) (s : Span) (m : Exact) (p : Price) → LiesWithin (Some s) m → Reach d m (exact_of_price p) → Reach d (exact_of_price p) (extreme_of_span d s) → LiesWithin (Some s) (exact_of_price p)
+price_within Up s m p w h g = whole_fits (Some s) p (refl, omega (arith, ints, cross s.lowest.cents m.n p.cents 1 m.d 1 w.divides (omega (arith, ints, w.low)) h), omega (arith, ints, g))
+price_within Down s m p w h g = whole_fits (Some s) p (refl, omega (arith, ints, g), omega (arith, ints, cross p.cents m.n s.highest.cents 1 m.d 1 w.divides h (omega (arith, ints, w.high))))
 
 price_fits : (f : Option Span) (o : Option Price) → (is_some o ≡ true → Between f (cents_of o)) → WhereExists (LiesWithin f) (option_map exact_of_price o)
 price_fits f None h = tt

@@ -1,10 +1,10 @@
 -- What lies within the formed prices lies within them and the avoided value too; and the incentive component keeps the laws
 -- wherever the rulebook below does.
-use Rattle.std.specs.Prelude.{◌≡◌, ℕ, Bool, true, false, if◌then◌else◌, ℤ, pos, ◌*ℤ◌, ◌≤ℤ◌, Some, None, Option, ◌≢◌, refl}
+use Rattle.std.specs.Prelude.{◌≡◌, ℕ, Bool, true, false, if◌then◌else◌, ℤ, ◌≤ℤ◌, Some, None, Option, ◌≢◌, refl}
 use Rattle.std.proofs.Common.{sym, subst, arith}
 use borrow.Author.Differences.{ints}
 use Rattle.figures.proofs.Gathered.{scaled}
-use Rattle.figures.specs.Components.{no_more_extreme, side_in, turnover, volume}
+use Rattle.figures.specs.Components.{extreme_of_span, no_more_extreme, side_in, turnover, volume}
 use Rattle.figures.specs.Spans.{greater, lesser}
 use Rattle.figures.specs.declared.quarter_figures.Figures.{Figures}
 use Rattle.figures.specs.declared.span.Span.{Span}
@@ -16,7 +16,8 @@ use Rattle.pricing.specs.FourLaws.{IsFromFormed, IsFromFormedOrAvoided, IsInNets
 use Rattle.pricing.specs.Incentives.{with_incentive}
 use Rattle.pricing.specs.Outcomes.{Outcome, avoided, directed, net_of, outcome_at}
 use Rattle.pricing.specs.declared.ruling.Net.{Net}
-use Rattle.pricing.specs.laws.Reach.{Reach, cross, reach_trans, reach_true}
+use Rattle.pricing.specs.laws.Fits.{price_within}
+use Rattle.pricing.specs.laws.Reach.{Reach, reach_trans, reach_true}
 
 -- the greater and the lesser of two prices are no less and no more than both
 greater_bounds : (p q : Price) → (p.cents ≤ℤ (greater p q).cents) × (q.cents ≤ℤ (greater p q).cents)
@@ -25,28 +26,19 @@ greater_bounds p q = grind (arith, ints)
 lesser_bounds : (p q : Price) → ((lesser p q).cents ≤ℤ p.cents) × ((lesser p q).cents ≤ℤ q.cents)
 lesser_bounds p q = grind (arith, ints)
 
-farther : (n a b : ℤ) (d : ℕ) → n ≤ℤ (a *ℤ pos d) → a ≤ℤ b → n ≤ℤ (b *ℤ pos d)
-farther n a b d h g = omega (arith, ints, h, scaled a b d g)
-
-nearer : (n a b : ℤ) (d : ℕ) → (a *ℤ pos d) ≤ℤ n → b ≤ℤ a → (b *ℤ pos d) ≤ℤ n
-nearer n a b d h g = omega (arith, ints, h, scaled b a d g)
-
 -- ---- from the formed prices to the wider law
+lies_wider : (s t : Span) (q : Exact) → t.lowest.cents ≤ℤ s.lowest.cents → s.highest.cents ≤ℤ t.highest.cents → LiesWithin (Some s) q → LiesWithin (Some t) q
+lies_wider s t q l g h = record {
+  formed = refl;
+  divides = h.divides;
+  bounded_denominator = h.bounded_denominator;
+  low = omega (arith, ints, h.low, scaled t.lowest.cents s.lowest.cents q.d l);
+  high = omega (arith, ints, h.high, scaled s.highest.cents t.highest.cents q.d g);
+}
+
 within_reaching : (d : Direction) (v : Price) (s : Span) (q : Exact) → LiesWithin (Some s) q → LiesWithin (Some (reaching d v s)) q
-within_reaching Up v s q h = record {
-  formed = refl;
-  divides = h.divides;
-  bounded_denominator = h.bounded_denominator;
-  low = h.low;
-  high = farther q.n s.highest.cents (greater v s.highest).cents q.d h.high (greater_bounds v s.highest).1;
-}
-within_reaching Down v s q h = record {
-  formed = refl;
-  divides = h.divides;
-  bounded_denominator = h.bounded_denominator;
-  low = nearer q.n s.lowest.cents (lesser v s.lowest).cents q.d h.low (lesser_bounds v s.lowest).1;
-  high = h.high;
-}
+within_reaching Up v s q h = lies_wider s (reaching Up v s) q (omega (arith, ints)) (greater_bounds v s.highest).1 h
+within_reaching Down v s q h = lies_wider s (reaching Down v s) q (lesser_bounds v s.lowest).1 (omega (arith, ints)) h
 
 widens : (d : Direction) (v : Option Price) (f : Option Span) (q : Exact) → LiesWithin f q → LiesWithin (outer_span d v f) q
 widens d None f q h = h
@@ -62,25 +54,13 @@ same_direction : (z : ℤ) (d : Direction) (q r : Exact) → IsInNetsDirection z
 same_direction z Up q r h = h
 same_direction z Down q r h = h
 
-value_reaches : (d : Direction) (v : Price) (s : Span) (q : Exact) → LiesWithin (Some (reaching d v s)) q → Reach d q (exact_of_price v) → LiesWithin (Some (reaching d v s)) (exact_of_price v)
-value_reaches Up v s q h g = record {
-  formed = refl;
-  divides = omega arith;
-  bounded_denominator = omega arith;
-  low = omega (arith, ints, cross s.lowest.cents q.n v.cents 1 q.d 1 h.divides (omega (arith, ints, h.low)) g);
-  high = omega (arith, ints, (greater_bounds v s.highest).0);
-}
-value_reaches Down v s q h g = record {
-  formed = refl;
-  divides = omega arith;
-  bounded_denominator = omega arith;
-  low = omega (arith, ints, (lesser_bounds v s.lowest).0);
-  high = omega (arith, ints, cross v.cents q.n s.highest.cents 1 q.d 1 h.divides g (omega (arith, ints, h.high)));
-}
+reached : (d : Direction) (v : Price) (s : Span) → Reach d (exact_of_price v) (extreme_of_span d (reaching d v s))
+reached Up v s = omega (arith, ints, (greater_bounds v s.highest).0)
+reached Down v s = omega (arith, ints, (lesser_bounds v s.lowest).0)
 
 value_within : (d : Direction) (v : Price) (f : Option Span) (q : Exact) → LiesWithin (outer_span d (Some v) f) q → Reach d q (exact_of_price v) → LiesWithin (outer_span d (Some v) f) (exact_of_price v)
 value_within d v None q h g = absurd (let z : ◌≡◌ {A = ℕ} 0 1 = cc in omega arith)
-value_within d v (Some s) q h g = value_reaches d v s q h g
+value_within d v (Some s) q h g = price_within d (reaching d v s) q v h g (reached d v s)
 
 is_directed : (d : Direction) (q : Exact) → directed d q ≢ avoided
 is_directed d q x = let z : ◌≡◌ {A = ℕ} 0 1 = cc in omega arith

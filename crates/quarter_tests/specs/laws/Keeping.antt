@@ -2,35 +2,17 @@
 use Rattle.std.specs.Prelude.{◌≡◌, ℕ, Bool, true, false, if◌then◌else◌, is_some, Some, None, Option, refl}
 use Rattle.std.proofs.Common.{sym, subst, arith}
 use Rattle.std.proofs.lemmas.Bool.{cond_both}
-use borrow.Author.Differences.{ints}
 use Rattle.figures.specs.Components.{Component, extreme, extreme_of_span, no_more_extreme, turnover, volume, weighted_mean}
 use Rattle.figures.specs.declared.span.Span.{Span}
-use Rattle.pricing.specs.laws.Fits.{mean_fits}
+use Rattle.pricing.specs.laws.Fits.{mean_fits, price_within}
 use Rattle.pricing.specs.laws.Lawful.{IsLawfulRule, mean_covers, quotient_exists}
 use Rattle.pricing.specs.FourLaws.{LiesWithin}
-use Rattle.pricing.specs.laws.Reach.{WhereExists, Reach, Tops, beyond_same, cross, extreme_first, extreme_tops, reach_false, reach_true}
+use Rattle.pricing.specs.laws.Reach.{WhereExists, Reach, Tops, beyond_same, extreme_first, extreme_tops, reach_false, reach_true}
 use Rattle.quarter_tests.specs.References.{mean_or_reference, opposite, reference_price, reference_within}
 use Rattle.source.specs.declared.direction.Direction.{Direction}
 use Rattle.source.specs.declared.direction.Direction.TheVariants.{Up, Down}
 use Rattle.units.specs.Exact.{Exact, exact_of_price}
 use Rattle.units.specs.declared.price.Price.{Price}
-
--- a price that is as extreme as one between the lowest and the highest, and no more extreme than all, lies between them too
-price_within : (d : Direction) (s : Span) (m : Exact) (q : Price) → LiesWithin (Some s) m → Reach d m (exact_of_price q) → Reach d (exact_of_price q) (extreme_of_span d s) → LiesWithin (Some s) (exact_of_price q)
-price_within Up s m q w h g = record {
-  formed = refl;
-  divides = omega arith;
-  bounded_denominator = omega arith;
-  low = omega (arith, ints, cross s.lowest.cents m.n q.cents 1 m.d 1 w.divides (omega (arith, ints, w.low)) h);
-  high = omega (arith, ints, g);
-}
-price_within Down s m q w h g = record {
-  formed = refl;
-  divides = omega arith;
-  bounded_denominator = omega arith;
-  low = omega (arith, ints, g);
-  high = omega (arith, ints, cross q.cents m.n s.highest.cents 1 m.d 1 w.divides h (omega (arith, ints, w.high)));
-}
 
 turned : (d : Direction) (a b : Exact) → Reach (opposite d) a b → Reach d b a
 turned Up a b h = h
