@@ -1,0 +1,3 @@
+pub mod Bids
+pub mod Merit
+pub mod laws

@@ -1,0 +1,49 @@
+// A bid as plain numbers, as a ladder's memory holds it.
+ghost use Rattle.std.specs.Prelude.{◌≡◌};
+ghost use Rattle.bids.specs.Bids.{row_of};
+ghost use Rattle.bids.specs.Merit.{stands_before};
+
+use crate::bid::Bid;
+use source::Direction;
+
+/// A price in cents per MWh, a quantity in kW and a bid's number, which need not be in the bounds of a bid.
+#[derive(Clone, Copy, PartialEq, Eq, Debug)]
+pub struct BidRow {
+    pub cents: i32,
+    pub kw: u32,
+    pub number: u16,
+}
+
+impl From<Bid> for BidRow {
+    ghost from_gives = { λ b r. r ≡ row_of b };
+
+    fn from(bid: Bid) -> BidRow {
+        BidRow {
+            cents: bid.price.cents() as i32,
+            kw: bid.kw,
+            number: bid.number,
+        }
+    }
+}
+
+impl BidRow {
+    /// What stands in a memory before any bid does: no bid has quantity 0.
+    pub const NO_BID: BidRow = BidRow {
+        cents: 0,
+        kw: 0,
+        number: 0,
+    };
+
+    /// Whether it stands before the other in the merit order of a direction.
+    pub(crate) fn stands_before(self, direction: Direction, other: BidRow) -> bool
+        ensures { result ≡ stands_before direction self other }
+    {
+        if self.cents == other.cents {
+            return self.number < other.number;
+        }
+        match direction {
+            Direction::Up => self.cents < other.cents,
+            Direction::Down => other.cents < self.cents,
+        }
+    }
+}

@@ -1,0 +1,5 @@
+mod Moved
+mod Ordered
+mod Found
+mod Stepped
+mod EveryRun

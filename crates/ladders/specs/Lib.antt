@@ -1,0 +1,5 @@
+pub mod Orders
+pub mod Refusals
+pub mod Lists
+pub mod Runs
+pub mod Ladders
