@@ -1,13 +1,8 @@
-pub mod Capped
-pub mod Cuts
-pub mod Digits
 pub mod InputSteps
 pub mod LineSteps
 pub mod LineTrips
 pub mod Named
-pub mod Numbers
 pub mod Powers
 pub mod Printed
 pub mod Runs
 pub mod TextTrips
-pub mod Tokens

@@ -8,12 +8,13 @@ use Rattle.std.proofs.lemmas.List.Splits.{length-slice_split}
 use Rattle.std.proofs.lemmas.List.Sums.{count_by-le-length}
 use Rattle.std.specs.Iterator.{Yields}
 use Rattle.units.specs.Chains.{result_and_then}
-use Rattle.quarter_text.specs.Drafts.{blank, finished, in_line, quarter_of_lines, with_line, with_lines}
-use Rattle.quarter_text.specs.Marks.{line_end}
+use Rattle.words.specs.Faults.{in_line}
+use Rattle.words.specs.Marks.{line_end}
+use Rattle.words.specs.Words.{lines_of, words_of}
+use Rattle.quarter_text.specs.Faults.{TextFault}
+use Rattle.quarter_text.specs.Drafts.{blank, finished, quarter_of_lines, with_line, with_lines}
 use Rattle.quarter_text.specs.Readers.{GoesOn, HasRead, accepted, read_so_far, with_next}
-use Rattle.quarter_text.specs.Words.{lines_of, words_of}
 use Rattle.quarter_text.specs.declared.draft.Draft.{Draft}
-use Rattle.quarter_text.specs.declared.fault.TextFault.{TextFault}
 use Rattle.quarter_text.specs.declared.reader.TextReader.{TextReader}
 use Rattle.quarter_text.specs.declared.reader.TheConstants.{MOST_LINES}
 

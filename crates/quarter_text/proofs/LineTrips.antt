@@ -16,17 +16,18 @@ use Rattle.units.specs.declared.demand.Demand.{Demand}
 use Rattle.units.specs.declared.price.Price.{Price}
 use Rattle.units.specs.declared.zone_net.ZoneNet.{ZoneNet}
 use Rattle.source.specs.declared.slot.TheConstants.{SLOTS}
+use Rattle.words.specs.Lines.{Words}
+use Rattle.words.specs.Numerals.{numeral, integer_of}
+use Rattle.words.specs.Words.{words_of}
+use Rattle.words.proofs.Decimals.{Writes, decimal_writes, digits_plain, digits_read, no_place, place_after, word_of_digits}
+use Rattle.words.proofs.Numbers.{Reads, digits_first, euros_read, no_letter, number, signed_read, value_number}
+use Rattle.words.proofs.Tokens.{Word, inline, inline_joined, inline_word, plain_joined, word_first, word_last}
 use Rattle.quarter_text.specs.Ranges.{numbered, slot_of, slots_from_to}
-use Rattle.quarter_text.specs.Lines.{Words, avoided_line, price_at, range_line, told_by, zone_net_line}
-use Rattle.quarter_text.specs.Numerals.{numeral, integer_of}
+use Rattle.quarter_text.specs.Lines.{avoided_line, price_at, range_line, told_by, zone_net_line}
 use Rattle.quarter_text.specs.Texts.{price_text, slots_text, told_text}
-use Rattle.quarter_text.specs.Words.{words_of}
 use Rattle.quarter_text.specs.declared.fault.Part.{Part}
 use Rattle.quarter_text.specs.declared.fault.Part.TheVariants as part
 use Rattle.quarter_text.specs.declared.range.Range.{Range}
-use Rattle.quarter_text.proofs.Tokens.{Word, inline, inline_joined, inline_word, plain_joined, word_first, word_last}
-use Rattle.quarter_text.proofs.Digits.{Writes, decimal_writes, digits_plain, digits_read, no_place, place_after, word_of_digits}
-use Rattle.quarter_text.proofs.Numbers.{Reads, digits_first, euros_read, no_letter, number, signed_read, value_number}
 
 -- PRICES
 

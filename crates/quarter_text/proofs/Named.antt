@@ -2,10 +2,10 @@
 use Rattle.std.proofs.Common.{◌≡◌, ℕ, zero, suc, ◌+◌, ◌-◌, ◌<◌, ◌≤◌, true, List, length, is_some, None, Ok, Err, Option, slice_index_or, sym, refl, ap, ◌∙◌, subst, arith}
 use Rattle.std.proofs.lemmas.List.{get_or_default}
 use Rattle.source.specs.Slots.{Slot}
+use Rattle.words.specs.Faults.{at_word}
+use Rattle.quarter_text.specs.Faults.{WordFault}
 use Rattle.quarter_text.specs.Drafts.{name_slots}
-use Rattle.quarter_text.specs.Faults.{at_word}
 use Rattle.quarter_text.specs.declared.fault.Problem.TheVariants.{NamedTwice}
-use Rattle.quarter_text.specs.declared.fault.WordFault.{WordFault}
 
 abbrev Refused : List (Option Slot) → List ℕ → ℕ → ℕ → Slot → WordFault → Type 0
 Refused l f first n s e = name_slots l f first n s ≡ Err e

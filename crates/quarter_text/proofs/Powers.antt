@@ -6,12 +6,11 @@ use Rattle.source.specs.declared.product.TheConstants.{CYCLES}
 use Rattle.source.specs.declared.slot.TheConstants.{SLOTS}
 use Rattle.units.specs.Chains.{result_and_then}
 use Rattle.units.specs.declared.bounds.TheConstants.{MOST_KW}
+use Rattle.words.specs.Numerals.{Number, capped}
+use Rattle.words.specs.declared.decimal.TheConstants.{READ_AT_MOST}
 use Rattle.quarter_text.specs.Faults.{ReadOrFault}
 use Rattle.quarter_text.specs.Lines.{is_whole, power, whole_after}
-use Rattle.quarter_text.specs.Numerals.{Number}
 use Rattle.quarter_text.specs.Ranges.{weight_of_range, weights}
-use Rattle.quarter_text.specs.Steps.{capped}
-use Rattle.quarter_text.specs.declared.decimal.TheConstants.{READ_AT_MOST}
 use Rattle.quarter_text.specs.declared.range.Range.{Range}
 
 -- a number that is not whole is passed over

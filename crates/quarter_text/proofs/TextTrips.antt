@@ -13,19 +13,19 @@ use Rattle.writing.specs.Bytes.{sheet_bytes}
 use Rattle.writing.specs.Trips.{TellsSame}
 use Rattle.units.specs.Chains.{result_and_then}
 use Rattle.source.specs.declared.slot.TheConstants.{SLOTS}
+use Rattle.words.specs.Words.{lines_of, words_of}
+use Rattle.words.proofs.Tokens.{inline, inline_joined, inline_word, line_first, word_first}
+use Rattle.source.specs.Tables.{idle}
 use Rattle.quarter_text.specs.Drafts.{blank, finished, name_lines, with_line, with_lines, with_slots}
 use Rattle.quarter_text.specs.Ranges.{slots_from_to}
-use Rattle.source.specs.Tables.{idle}
 use Rattle.quarter_text.specs.Quarters.{meaning_of}
 use Rattle.quarter_text.specs.Texts.{ends_run, head_text, lines_to, others_text, price_text, run_start, run_text, runs_to, same_slot, slots_text, text_of, text_with, told_text}
 use Rattle.quarter_text.specs.Trips.{ReadsBack, SameSheetThroughText}
-use Rattle.quarter_text.specs.Words.{lines_of, words_of}
 use Rattle.quarter_text.specs.declared.draft.AvoidedValue.TheVariants.{NotYetSaid, Said}
 use Rattle.quarter_text.specs.declared.draft.Draft.{Draft}
 use Rattle.quarter_text.specs.declared.quarter.TextQuarter.{TextQuarter}
 use Rattle.quarter_text.proofs.LineTrips.{OneLine, avoided_there, avoided_words, head_inline, net_there, net_words, slots_read, told_inline, told_split, told_there, told_words}
 use Rattle.quarter_text.proofs.Runs.{Named, in_run, named_run, one_line, slot_is, start_first, start_low, start_next, start_stays}
-use Rattle.quarter_text.proofs.Tokens.{inline, inline_joined, inline_word, line_first, word_first}
 
 -- READING ON
 

@@ -1,21 +1,22 @@
 -- A quarter, read line by line.
 use Rattle.std.specs.Prelude.{ℕ, zero, suc, ◌+◌, ◌-◌, List, [], ◌∷◌, length, replicate, is_some, Some, None, Ok, Option, Result, slice_index_or, slice_set, if◌then◌else◌}
 use Rattle.std.specs.Option.{unwrap_or}
-use Rattle.units.specs.Chains.{result_and_then, result_map_err}
+use Rattle.units.specs.Chains.{result_and_then}
 use Rattle.source.specs.Slots.{Slot}
 use Rattle.source.specs.Tables.{idle}
 use Rattle.source.specs.declared.slot.TheConstants.{SLOTS}
 use Rattle.units.specs.declared.price.Price.{Price}
 use Rattle.units.specs.declared.zone_net.ZoneNet.{ZoneNet}
-use Rattle.quarter_text.specs.Faults.{ReadOrFault, at_word, fault_in}
-use Rattle.quarter_text.specs.Lines.{Words, avoided_line, is_of_others, others_line, range_line, told_by, zone_net_line}
-use Rattle.quarter_text.specs.Words.{lines_of, words_of}
+use Rattle.words.specs.Faults.{at_word, in_line}
+use Rattle.words.specs.Lines.{Words}
+use Rattle.words.specs.Words.{lines_of, words_of}
+use Rattle.quarter_text.specs.Faults.{ReadOrFault, TextFault}
+use Rattle.quarter_text.specs.Lines.{avoided_line, is_of_others, others_line, range_line, told_by, zone_net_line}
 use Rattle.quarter_text.specs.declared.draft.AvoidedValue.{AvoidedValue}
 use Rattle.quarter_text.specs.declared.draft.AvoidedValue.TheVariants.{NotYetSaid, Said}
 use Rattle.quarter_text.specs.declared.draft.Draft.{Draft}
 use Rattle.quarter_text.specs.declared.fault.Part.TheVariants as part
 use Rattle.quarter_text.specs.declared.fault.Problem.TheVariants.{Missing, NamedTwice, OthersTwice}
-use Rattle.quarter_text.specs.declared.fault.TextFault.{TextFault}
 use Rattle.quarter_text.specs.declared.range.Range.{Range}
 use Rattle.quarter_text.specs.declared.quarter.TextQuarter.{TextQuarter}
 
@@ -74,10 +75,6 @@ with_words k d (Some z) (Said v) ws = with_slot_line k d ws
 abbrev pub with_line : ℕ → Draft → Words → ReadOrFault Draft
 with_line k d [] = Ok d
 with_line k d (w ∷ ws) = with_words k d d.zone_net d.avoided (w ∷ ws)
-
--- what is read of the n-th line, counted from 0
-abbrev pub in_line : {X : Type 0} → ℕ → ReadOrFault X → Result X TextFault
-in_line n x = result_map_err x (fault_in n)
 
 -- a draft after these lines, of which the first is the n-th of the text; or their first fault
 abbrev pub with_lines : ℕ → Draft → List (List ℕ) → Result Draft TextFault

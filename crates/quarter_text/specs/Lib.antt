@@ -1,7 +1,4 @@
-pub mod Marks
-pub mod Words
 pub mod Faults
-pub mod Numerals
 pub mod Products
 pub mod Ranges
 pub mod Lines

@@ -1,7 +1,5 @@
 -- What the words of a line say.
-use Rattle.std.specs.Prelude.{ℕ, zero, suc, ◌+◌, ◌-◌, ◌*◌, ◌/◌, ◌%◌, min, Bool, false, not, List, length, ℤ, Some, None, Ok, Err, Option, Result, ◌==◌, nat_le, nat_lt, ok_or, slice_get, codes, if◌then◌else◌}
-use Rattle.std.specs.Option.{option_map_or}
-use Rattle.std.specs.Str.{bytes_eq}
+use Rattle.std.specs.Prelude.{ℕ, zero, suc, ◌+◌, ◌-◌, ◌*◌, ◌/◌, ◌%◌, min, Bool, not, ℤ, Some, None, Ok, Option, Result, ◌==◌, nat_lt, codes, if◌then◌else◌}
 use Rattle.units.specs.Chains.{result_and_then}
 use Rattle.source.specs.Slots.{Slot}
 use Rattle.units.specs.Quantities.{demand_of, price_of, zone_net_of}
@@ -10,62 +8,40 @@ use Rattle.units.specs.declared.bounds.TheConstants.{MOST_KW}
 use Rattle.units.specs.declared.demand.Demand.{Demand}
 use Rattle.units.specs.declared.price.Price.{Price}
 use Rattle.units.specs.declared.zone_net.ZoneNet.{ZoneNet}
-use Rattle.quarter_text.specs.Faults.{ReadOrFault, at_word, expected_at, in_bounds}
-use Rattle.quarter_text.specs.Numerals.{Number, numeral, integer_of}
+use Rattle.words.specs.Faults.{at_word}
+use Rattle.words.specs.Lines.{Words, end_at, is_word, keyword, number_at, word_at}
+use Rattle.words.specs.Numerals.{Number, integer_of}
+use Rattle.words.specs.declared.decimal.TheConstants.{READ_AT_MOST}
+use Rattle.quarter_text.specs.Faults.{ReadOrFault, in_bounds}
 use Rattle.quarter_text.specs.Ranges.{range_of, weight_of_range}
-use Rattle.quarter_text.specs.declared.decimal.TheConstants.{READ_AT_MOST}
 use Rattle.quarter_text.specs.declared.fault.EnergyFault.{EnergyFault}
 use Rattle.quarter_text.specs.declared.fault.Part.{Part}
 use Rattle.quarter_text.specs.declared.fault.Part.TheVariants as part
-use Rattle.quarter_text.specs.declared.fault.Problem.TheVariants.{EnergyBounds, NotWholeKw}
+use Rattle.quarter_text.specs.declared.fault.Problem.TheVariants.{EnergyBounds, Expected, NotWholeKw}
 use Rattle.quarter_text.specs.declared.range.Range.{Range}
 
--- the words of a line, each as its bytes
-abbrev pub Words : Type 0
-Words = List (List ℕ)
-
--- the word at k; where the line ends before it, p should stand there
-abbrev pub word_at : Words → ℕ → Part → ReadOrFault (List ℕ)
-word_at ws k p = ok_or (slice_get ws k) (expected_at k p)
-
--- whether this very word stands at k
-abbrev pub is_word : Words → ℕ → List ℕ → Bool
-is_word ws k w = option_map_or (λ v. bytes_eq v w) (slice_get ws k) false
-
--- this very word stands at k; else p should
-abbrev pub keyword : Words → ℕ → Part → List ℕ → ReadOrFault (Unit {0})
-keyword ws k p w = if is_word ws k w then Ok tt else Err (expected_at k p)
-
--- no word at k, nor after it
-abbrev pub end_at : Words → ℕ → ReadOrFault (Unit {0})
-end_at ws k = if nat_le (length ws) k then Ok tt else Err (expected_at k part.End)
-
--- the number at k, with up to so many decimals
-abbrev pub number_at : ℕ → Words → ℕ → Part → ReadOrFault Number
-number_at places ws k p = result_and_then (word_at ws k p) (λ w. ok_or (numeral places w) (expected_at k p))
-
 -- the quantity at k, of a number with up to so many decimals
-abbrev pub quantity_at : {Q : Type 0} → (ℤ → Result Q OutOfBounds) → ℕ → Words → ℕ → Part → ReadOrFault Q
-quantity_at made places ws k p = result_and_then (number_at places ws k p) (λ n. in_bounds k (made (integer_of n)))
+abbrev pub quantity_at : {Q : Type 0} → (ℤ → Result Q OutOfBounds) → Words → ℕ → ℕ → Part → ReadOrFault Q
+quantity_at made ws k places p = result_and_then (number_at ws k places (Expected p)) (λ n. in_bounds k (made (integer_of n)))
 
 -- euros with up to two decimals at k, or a - where there is no price
 abbrev pub price_at : Words → ℕ → Part → ReadOrFault (Option Price)
-price_at ws k p = if is_word ws k (codes "-") then Ok None else result_and_then (quantity_at price_of 2 ws k p) (λ price. Ok (Some price))
+price_at ws k p = if is_word ws k (codes "-") then Ok None else result_and_then (quantity_at price_of ws k 2 p) (λ price. Ok (Some price))
 
 -- the line of the zone net
 abbrev pub zone_net_line : Words → ReadOrFault ZoneNet
 zone_net_line ws =
-    result_and_then (keyword ws 0 part.Net (codes "net"))
-    (λ net. result_and_then (quantity_at zone_net_of 0 ws 1 part.ZoneNet)
-    (λ zone_net. result_and_then (end_at ws 2)
+    result_and_then (keyword ws 0 (codes "net") (Expected part.Net))
+    (λ net. result_and_then (quantity_at zone_net_of ws 1 0 part.ZoneNet)
+    (λ zone_net. result_and_then (end_at ws 2 (Expected part.End))
     (λ ended. Ok zone_net)))
 
 -- the line of the avoided value
 abbrev pub avoided_line : Words → ReadOrFault (Option Price)
 avoided_line ws =
-    result_and_then (keyword ws 0 part.Avoided (codes "avoided"))
+    result_and_then (keyword ws 0 (codes "avoided") (Expected part.Avoided))
     (λ word. result_and_then (price_at ws 1 part.AvoidedValue)
-    (λ avoided. result_and_then (end_at ws 2)
+    (λ avoided. result_and_then (end_at ws 2 (Expected part.End))
     (λ ended. Ok avoided)))
 
 -- whether the line is of the slots that no line names
@@ -75,13 +51,13 @@ is_of_others ws = is_word ws 0 (codes "others")
 -- what the line of those slots says of each of them: it is unreported
 abbrev pub others_line : Words → ReadOrFault Slot
 others_line ws =
-    result_and_then (keyword ws 1 part.Unreported (codes "unreported"))
-    (λ word. result_and_then (end_at ws 2)
+    result_and_then (keyword ws 1 (codes "unreported") (Expected part.Unreported))
+    (λ word. result_and_then (end_at ws 2 (Expected part.End))
     (λ ended. Ok None))
 
 -- the slots that a line names
 abbrev pub range_line : Words → ReadOrFault Range
-range_line ws = result_and_then (word_at ws 0 part.Slots) range_of
+range_line ws = result_and_then (word_at ws 0 (Expected part.Slots)) range_of
 
 -- the power, in kW, of 1 kWh within a cycle of 4 s, of which an hour has 900
 abbrev pub kw_per_kwh : ℕ
@@ -138,19 +114,19 @@ power k r n = power_over k r (weight_of_range r) n
 
 -- the power of the energy at k, in MWh with up to three decimals, over slots
 abbrev pub energy_at : Words → ℕ → Range → ReadOrFault Demand
-energy_at ws k r = result_and_then (number_at 3 ws k part.Demand) (power k r)
+energy_at ws k r = result_and_then (number_at ws k 3 (Expected part.Demand)) (power k r)
 
 -- the two prices from the word k on, to the line's end, with a demand
 abbrev pub prices_after : Words → ℕ → Demand → ReadOrFault Slot
 prices_after ws k d =
     result_and_then (price_at ws k part.UpPrice)
     (λ up. result_and_then (price_at ws (k + 1) part.DownPrice)
-    (λ down. result_and_then (end_at ws (k + 2))
+    (λ down. result_and_then (end_at ws (k + 2) (Expected part.End))
     (λ ended. Ok (Some (record { demand = d; up = up; down = down })))))
 
 -- what the words after the slots say of each of them: unreported, or a demand in kW or in MWh over them, and prices
 abbrev pub told_by : Words → Range → ReadOrFault Slot
 told_by ws r =
-    if is_word ws 1 (codes "unreported") then result_and_then (end_at ws 2) (λ ended. Ok None)
+    if is_word ws 1 (codes "unreported") then result_and_then (end_at ws 2 (Expected part.End)) (λ ended. Ok None)
     else if is_word ws 2 (codes "MWh") then result_and_then (energy_at ws 1 r) (prices_after ws 3)
-    else result_and_then (quantity_at demand_of 0 ws 1 part.Demand) (prices_after ws 2)
+    else result_and_then (quantity_at demand_of ws 1 0 part.Demand) (prices_after ws 2)

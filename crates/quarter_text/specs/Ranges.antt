@@ -5,12 +5,13 @@ use Rattle.units.specs.Chains.{result_and_then}
 use Rattle.source.specs.Products.{manual_slot, weight}
 use Rattle.source.specs.declared.product.ManualProduct.{ManualProduct}
 use Rattle.source.specs.declared.slot.TheConstants.{SLOTS}
-use Rattle.quarter_text.specs.Marks.{dash}
-use Rattle.quarter_text.specs.Faults.{ReadOrFault, at_word, expected_at}
-use Rattle.quarter_text.specs.Numerals.{digits}
+use Rattle.words.specs.Faults.{at_word, fault_at}
+use Rattle.words.specs.Marks.{dash}
+use Rattle.words.specs.Numerals.{digits}
+use Rattle.quarter_text.specs.Faults.{ReadOrFault}
 use Rattle.quarter_text.specs.Products.{product_named}
 use Rattle.quarter_text.specs.declared.fault.Part.TheVariants as part
-use Rattle.quarter_text.specs.declared.fault.Problem.TheVariants.{NoSuchSlot, BackwardRange}
+use Rattle.quarter_text.specs.declared.fault.Problem.TheVariants.{Expected, NoSuchSlot, BackwardRange}
 use Rattle.quarter_text.specs.declared.range.Range.{Range}
 
 -- the slots from a to b
@@ -19,7 +20,7 @@ slots_from_to a b = record { first = a; last = b }
 
 -- the slot of a number, which is one of a quarter's
 abbrev pub slot_of : List ℕ → ReadOrFault ℕ
-slot_of w = result_and_then (ok_or (digits w) (expected_at 0 part.Slots)) (λ n. if nat_lt n SLOTS then Ok n else at_word 0 NoSuchSlot)
+slot_of w = result_and_then (ok_or (digits w) (fault_at 0 (Expected part.Slots))) (λ n. if nat_lt n SLOTS then Ok n else at_word 0 NoSuchSlot)
 
 -- one slot, or the first and the last of a range, by the place of the dash between them
 abbrev pub numbered : List ℕ → Option ℕ → ReadOrFault Range

@@ -2,10 +2,11 @@
 use Rattle.std.specs.Prelude.{◌≡◌, ℕ, ◌<◌, List, [], ◌∷◌, ◌++◌, length, slice_get, Ok, Err, Result}
 use Rattle.std.specs.Option.{option_map_or}
 use Rattle.units.specs.Chains.{result_and_then}
-use Rattle.quarter_text.specs.Drafts.{blank, finished, in_line, quarter_of_lines, with_line, with_lines}
-use Rattle.quarter_text.specs.Words.{word_of, words_of}
+use Rattle.words.specs.Faults.{in_line}
+use Rattle.words.specs.Words.{word_of, words_of}
+use Rattle.quarter_text.specs.Faults.{TextFault}
+use Rattle.quarter_text.specs.Drafts.{blank, finished, quarter_of_lines, with_line, with_lines}
 use Rattle.quarter_text.specs.declared.draft.Draft.{Draft}
-use Rattle.quarter_text.specs.declared.fault.TextFault.{TextFault}
 use Rattle.quarter_text.specs.declared.quarter.TextQuarter.{TextQuarter}
 use Rattle.quarter_text.specs.declared.reader.TextReader.{TextReader}
 use Rattle.quarter_text.specs.declared.reader.TheConstants.{MOST_LINES}

@@ -13,7 +13,7 @@ use Rattle.source.specs.declared.slot.NoSuchSlot.{NoSuchSlot}
 use Rattle.source.specs.declared.slot.TheConstants.{SLOTS}
 use Rattle.units.specs.Text.{euros}
 use Rattle.units.specs.declared.price.Price.{Price}
-use Rattle.quarter_text.specs.Marks.{dash, line_end, space}
+use Rattle.words.specs.Marks.{dash, line_end, space}
 use Rattle.quarter_text.specs.Products.{product_word}
 
 -- euros, or a - where there is no price

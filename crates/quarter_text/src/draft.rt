@@ -1,14 +1,16 @@
 // A quarter of which some lines are read.
 ghost use Rattle.std.specs.Prelude.{◌≡◌, ◌+◌, ◌-◌, ◌<◌, ◌≤◌, IfOk};
+ghost use Rattle.words.specs.Lines.{words_in};
 ghost use Rattle.quarter_text.specs.Drafts.{blank, finished, name_lines, name_slots, with_line, with_others};
-ghost use Rattle.quarter_text.specs.Steps.{left, words_in};
+ghost use Rattle.quarter_text.specs.Steps.{left};
 
-use crate::fault::{Part, Problem, TextFault, WordFault, at_word};
-use crate::line::Line;
+use crate::fault::{Part, Problem, TextFault, WordFault};
+use crate::line::{avoided_line, is_of_others, others_line, range_line, told_by, zone_net_line};
 use crate::quarter::TextQuarter;
 use crate::range::Range;
 use source::{Row, SLOTS, Slot};
 use units::{Price, ZoneNet};
+use words::{Line, at_word};
 
 /// The avoided value, as far as the lines so far say it: there is one, or there is none.
 #[derive(Clone, Copy)]
@@ -91,24 +93,24 @@ impl Draft {
     }
 
     /// Takes one line more, by its number; an empty one says nothing.
-    pub(crate) fn take(&mut self, number: usize, line: Line<'_>) -> Result<(), WordFault>
-        ensures { left result self.new ≡ with_line number self.old (words_in line.entry) }
+    pub(crate) fn take(&mut self, number: usize, line: &Line<'_>) -> Result<(), WordFault>
+        ensures { left result self.new ≡ with_line number self.old (words_in line.now) }
     {
         if line.is_empty() {
             return Ok(());
         }
         match (self.zone_net, self.avoided) {
-            (None, _) => self.zone_net = Some(line.zone_net()?),
+            (None, _) => self.zone_net = Some(zone_net_line(line)?),
             (Some(_), AvoidedValue::NotYetSaid) => {
-                self.avoided = AvoidedValue::Said(line.avoided()?);
+                self.avoided = AvoidedValue::Said(avoided_line(line)?);
             }
-            (Some(_), AvoidedValue::Said(_)) if line.is_of_others() => {
-                let others = line.others()?;
+            (Some(_), AvoidedValue::Said(_)) if is_of_others(line) => {
+                let others = others_line(line)?;
                 self.tell_others(number, others)?;
             }
             (Some(_), AvoidedValue::Said(_)) => {
-                let range = line.range()?;
-                let told = line.told(range)?;
+                let range = range_line(line)?;
+                let told = told_by(line, range)?;
                 name_slots(&mut self.named, &self.lines, range, told)?;
                 name_lines(&mut self.lines, range, number);
             }

@@ -1,14 +1,14 @@
 // Energy over slots, as the power in each of them.
 ghost use Rattle.std.specs.Prelude.{◌≡◌, ◌*◌, ◌-◌, ◌<◌, ◌≤◌};
+ghost use Rattle.words.specs.Numerals.{number_of};
+ghost use Rattle.words.specs.declared.decimal.TheConstants.{READ_AT_MOST};
 ghost use Rattle.quarter_text.specs.Lines.{energy_fault, is_whole, power, whole_after, whole_up_to};
-ghost use Rattle.quarter_text.specs.Steps.{number_of};
-ghost use Rattle.quarter_text.specs.declared.decimal.TheConstants.{READ_AT_MOST};
 
-use crate::fault::{EnergyFault, Problem, WordFault, at_word, in_bounds};
-use crate::numeral::Numeral;
+use crate::fault::{EnergyFault, Problem, WordFault, in_bounds};
 use crate::range::Range;
 use source::{CYCLES, SLOTS};
 use units::{Demand, MOST_KW, Quantity};
+use words::{Numeral, at_word};
 
 /// The power of 1 kWh within a cycle of 4 s.
 const KW_PER_KWH: u64 = 900;

@@ -1,7 +1,7 @@
 // What is said of energy that comes to no demand.
-use crate::decimal::READ_AT_MOST;
 use crate::fault::EnergyFault;
 use std::fmt;
+use words::READ_AT_MOST;
 
 /// A number in thousandths, without the zeros at its end.
 #[derive(Clone, Copy)]

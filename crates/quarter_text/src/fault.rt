@@ -1,6 +1,6 @@
 // Where a text goes wrong, and why.
 ghost use Rattle.std.specs.Prelude.{◌≡◌};
-ghost use Rattle.quarter_text.specs.Faults.{at_word, expected_at, fault_in, in_bounds};
+ghost use Rattle.quarter_text.specs.Faults.{in_bounds};
 
 use units::OutOfBounds;
 
@@ -57,36 +57,11 @@ pub enum Problem {
     NotWholeKw(EnergyFault),
 }
 
-/// A word of a line, counted from 0, and why it is refused.
-#[derive(Clone, Copy, PartialEq, Eq, Debug)]
-pub struct WordFault {
-    pub word: usize,
-    pub problem: Problem,
-}
+/// A word of a line that is refused.
+pub type WordFault = words::WordFault<Problem>;
 
-/// A word of the text, by its line and its place in the line, both counted from 0, and why it is refused. Where the
-/// text ends too early, the line is the one after its last.
-#[derive(Clone, Copy, PartialEq, Eq, Debug)]
-pub struct TextFault {
-    pub line: usize,
-    pub word: usize,
-    pub problem: Problem,
-}
-
-pub(crate) fn at_word<T>(word: usize, problem: Problem) -> Result<T, WordFault>
-    ensures { result ≡ at_word word problem }
-{
-    Err(WordFault { word, problem })
-}
-
-pub(crate) fn expected(word: usize, part: Part) -> WordFault
-    ensures { result ≡ expected_at word part }
-{
-    WordFault {
-        word,
-        problem: Problem::Expected(part),
-    }
-}
+/// A word of the text that is refused. Where the text ends too early, the line is the one after its last.
+pub type TextFault = words::TextFault<Problem>;
 
 pub(crate) fn in_bounds<Q>(word: usize, made: Result<Q, OutOfBounds>) -> Result<Q, WordFault>
     ensures { result ≡ in_bounds word made }
@@ -95,16 +70,4 @@ pub(crate) fn in_bounds<Q>(word: usize, made: Result<Q, OutOfBounds>) -> Result<
         word,
         problem: Problem::Bounds(beyond),
     })
-}
-
-impl WordFault {
-    pub(crate) fn in_line(self, line: usize) -> TextFault
-        ensures { result ≡ fault_in line self }
-    {
-        TextFault {
-            line,
-            word: self.word,
-            problem: self.problem,
-        }
-    }
 }

@@ -1,13 +1,9 @@
 // What is likely to be meant where a line has something else.
-use crate::decimal::first_at;
 use crate::fault::{Part, Problem, TextFault};
-use crate::numeral::Numeral;
+use words::{Numeral, Places, first_at};
 
 /// The byte order mark of UTF-8.
 const BYTE_ORDER_MARK: [u8; 3] = [0xef, 0xbb, 0xbf];
-
-/// The most decimals of energy.
-const ENERGY_DECIMALS: usize = 3;
 
 // Digits on both sides of a comma.
 fn has_decimal_comma(word: &[u8]) -> bool {
@@ -41,7 +37,7 @@ pub(crate) fn hint(fault: TextFault, word: &[u8]) -> Option<&'static str> {
         }
         Part::AvoidedValue | Part::Demand | Part::UpPrice | Part::DownPrice
             if has_decimal_comma(word) => { Some("decimals are written with a point") }
-        Part::Demand if Numeral::read(word, ENERGY_DECIMALS).is_some() => {
+        Part::Demand if Numeral::read(word, Places::Three).is_some() => {
             Some("energy has its unit after it, MWh")
         }
         Part::Demand if ends_with_mwh(word) => Some("MWh is a word of its own"),

@@ -1,37 +1,14 @@
 // Reading a quarter from an input, of which a line at a time is held.
 ghost use Rattle.std.specs.Prelude.{◌≡◌, IfErr, IfOk, IfSome};
-ghost use Rattle.std.specs.Io.BufRead.{ends_with_byte, strip_last};
 ghost use Rattle.quarter_text.specs.Drafts.{quarter_of};
-ghost use Rattle.quarter_text.specs.Marks.{line_end};
 ghost use Rattle.quarter_text.specs.Readers.{HasWordOf};
-ghost use Rattle.quarter_text.specs.Steps.{IsNextLine};
 
 use crate::fault::TextFault;
 use crate::quarter::TextQuarter;
 use crate::reader::TextReader;
 use std::io;
 use std::io::{BufRead, ErrorKind};
-
-// Takes a line's end off, if it has one; whether it had.
-fn cut_line_end(line: &mut Vec<u8>) -> bool
-    ensures ended { result ≡ ends_with_byte line_end line.old.items }
-    ensures cut { line.new.items ≡ strip_last line_end line.old.items }
-{
-    if !matches!(line.as_slice(), [.., b'\n']) {
-        return false;
-    }
-    line.pop();
-    true
-}
-
-// Reads the next line, without its end; whether another one follows it.
-fn next_line<B: BufRead>(input: &mut B, line: &mut Vec<u8>) -> io::Result<bool>
-    ensures { IfOk result (λ more. IsNextLine (B.remaining input.old) line.new.items more (B.remaining input.new)) }
-{
-    line.clear();
-    input.read_until(b'\n', line)?;
-    Ok(cut_line_end(line))
-}
+use words::next_line;
 
 /// The quarter that an input's text tells, or its first fault; then `line` is the line that is refused, and empty
 /// where the text ends too early. What follows a refused line is not read.

@@ -1,7 +1,6 @@
 // A quarter as plain text: read from it, and written to it.
 #![tactic(auto)]
 
-mod decimal;
 mod draft;
 mod energy;
 mod energy_text;
@@ -10,14 +9,12 @@ mod hint;
 mod input;
 mod line;
 mod message;
-mod numeral;
 mod printing;
 mod product;
 mod quarter;
 mod range;
 mod reader;
 mod reading;
-mod words;
 
 pub use fault::{EnergyFault, Part, Problem, TextFault, WordFault};
 pub use input::read_quarter_from;
@@ -26,4 +23,3 @@ pub use printing::quarter_text;
 pub use quarter::TextQuarter;
 pub use reader::TextReader;
 pub use reading::read_quarter;
-pub use words::{nth_word, word_of};

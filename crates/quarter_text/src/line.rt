@@ -1,189 +1,111 @@
 // What the words of a line say.
-ghost use Rattle.std.specs.Prelude.{◌≡◌, ◌<◌, ◌≤◌, IfOk, Ok, length, nat_le, slice_get};
-ghost use Rattle.std.specs.Option.{option_map};
-ghost use Rattle.units.specs.Chains.{result_and_then};
+ghost use Rattle.std.specs.Prelude.{◌≡◌, ◌<◌, ◌≤◌, IfOk};
 ghost use Rattle.units.specs.Quantities.{demand_of};
-ghost use Rattle.quarter_text.specs.Lines.{avoided_line, end_at, energy_at, is_of_others, is_word, keyword, number_at, others_line, price_at, prices_after, quantity_at, range_line, told_by, word_at, zone_net_line};
-ghost use Rattle.quarter_text.specs.Steps.{bytes_read, capped, read_number, words_in};
-ghost use Rattle.quarter_text.specs.Words.{words_of};
+ghost use Rattle.words.specs.Lines.{words_in};
+ghost use Rattle.quarter_text.specs.Lines.{avoided_line, energy_at, is_of_others, others_line, price_at, prices_after, quantity_at, range_line, told_by, zone_net_line};
 ghost use Rattle.quarter_text.specs.declared.fault.Part.TheVariants as part;
 
 use crate::energy::power;
-use crate::fault::{Part, WordFault, expected, in_bounds};
-use crate::numeral::Numeral;
+use crate::fault::Problem::Expected;
+use crate::fault::{Part, WordFault, in_bounds};
 use crate::range::Range;
-use crate::words::{nth_between_blanks, uncommented};
 use source::{Reading, SLOTS, Slot};
 use units::{Demand, Price, Quantity, ZoneNet};
+use words::{Line, Places};
 
-/// A line without its comment.
-#[derive(Clone, Copy)]
-pub(crate) struct Line<'a> {
-    bytes: &'a [u8],
+fn price_at(line: &Line<'_>, at: usize, part: Part) -> Result<Option<Price>, WordFault>
+    ensures { result ≡ price_at (words_in line.now) at part }
+{
+    if line.has(at, b"-") {
+        return Ok(None);
+    }
+    let numeral = line.numeral(at, Places::Two, Expected(part))?;
+    Ok(Some(in_bounds(at, Price::new(numeral.value()))?))
 }
 
-impl<'a> Line<'a> {
-    /// The line of these bytes.
-    pub(crate) fn of(bytes: &'a [u8]) -> Line<'a>
-        ensures { words_in result ≡ words_of bytes.now }
-    {
-        Line {
-            bytes: uncommented(bytes),
-        }
-    }
+/// The line of the zone net.
+pub(crate) fn zone_net_line(line: &Line<'_>) -> Result<ZoneNet, WordFault>
+    ensures { result ≡ zone_net_line (words_in line.now) }
+{
+    line.keyword(0, b"net", Expected(Part::Net))?;
+    let numeral = line.numeral(1, Places::Whole, Expected(Part::ZoneNet))?;
+    let zone_net = in_bounds(1, ZoneNet::new(numeral.value()))?;
+    line.end(2, Expected(Part::End))?;
+    Ok(zone_net)
+}
 
-    fn nth(&self, at: usize) -> Option<&'a [u8]>
-        ensures { option_map (λ w. w.now) result ≡ slice_get (words_in self.now) at }
-    {
-        nth_between_blanks(self.bytes, at)
-    }
+/// The line of the avoided value.
+pub(crate) fn avoided_line(line: &Line<'_>) -> Result<Option<Price>, WordFault>
+    ensures { result ≡ avoided_line (words_in line.now) }
+{
+    line.keyword(0, b"avoided", Expected(Part::Avoided))?;
+    let avoided = price_at(line, 1, Part::AvoidedValue)?;
+    line.end(2, Expected(Part::End))?;
+    Ok(avoided)
+}
 
-    // Whether no word stands there, nor after it.
-    fn ends_at(&self, at: usize) -> bool
-        ensures { result ≡ nat_le (length (words_in self.now)) at }
-    {
-        self.nth(at).is_none()
-    }
+/// Whether the line is of the slots that no line names.
+pub(crate) fn is_of_others(line: &Line<'_>) -> bool
+    ensures { result ≡ is_of_others (words_in line.now) }
+{
+    line.has(0, b"others")
+}
 
-    /// Whether the line has no words.
-    pub(crate) fn is_empty(&self) -> bool
-        ensures { result ≡ nat_le (length (words_in self.now)) 0 }
-    {
-        self.ends_at(0)
-    }
+/// What the line of those slots says of each of them.
+pub(crate) fn others_line(line: &Line<'_>) -> Result<Slot, WordFault>
+    ensures { result ≡ others_line (words_in line.now) }
+{
+    line.keyword(1, b"unreported", Expected(Part::Unreported))?;
+    line.end(2, Expected(Part::End))?;
+    Ok(None)
+}
 
-    fn word(&self, at: usize, part: Part) -> Result<&'a [u8], WordFault>
-        ensures { bytes_read result ≡ word_at (words_in self.now) at part }
-    {
-        self.nth(at).ok_or(expected(at, part))
-    }
+/// The slots that a line names.
+pub(crate) fn range_line(line: &Line<'_>) -> Result<Range, WordFault>
+    ensures reads { result ≡ range_line (words_in line.now) }
+    ensures within { IfOk result (λ r. (r.first ≤ r.last) × (r.last < SLOTS)) }
+{
+    Range::of(line.word(0, Expected(Part::Slots))?)
+}
 
-    // Whether this very word stands there.
-    fn has(&self, at: usize, wanted: &[u8]) -> bool
-        ensures { result ≡ is_word (words_in self.now) at wanted.now }
-    {
-        self.nth(at).is_some_and(|word| word == wanted)
-    }
+fn demand_at(line: &Line<'_>, at: usize) -> Result<Demand, WordFault>
+    ensures { result ≡ quantity_at demand_of (words_in line.now) at 0 part.Demand }
+{
+    let numeral = line.numeral(at, Places::Whole, Expected(Part::Demand))?;
+    in_bounds(at, Demand::new(numeral.value()))
+}
 
-    fn keyword(&self, at: usize, part: Part, wanted: &[u8]) -> Result<(), WordFault>
-        ensures { result ≡ keyword (words_in self.now) at part wanted.now }
-    {
-        if !self.has(at, wanted) {
-            return Err(expected(at, part));
-        }
-        Ok(())
-    }
+// The demand in each slot of energy over these.
+fn energy_at(line: &Line<'_>, at: usize, range: Range) -> Result<Demand, WordFault>
+    requires { (range.first ≤ range.last) × (range.last < SLOTS) }
+    ensures { result ≡ energy_at (words_in line.now) at range }
+{
+    let energy = line.numeral(at, Places::Three, Expected(Part::Demand))?;
+    power(at, range, energy)
+}
 
-    fn end(&self, at: usize) -> Result<(), WordFault>
-        ensures { result ≡ end_at (words_in self.now) at }
-    {
-        if !self.ends_at(at) {
-            return Err(expected(at, Part::End));
-        }
-        Ok(())
-    }
+// A demand, and the two prices from the word `at` to the line's end.
+fn prices_after(line: &Line<'_>, at: usize, demand: Demand) -> Result<Slot, WordFault>
+    requires { at ≤ 3 }
+    ensures { result ≡ prices_after (words_in line.now) at demand }
+{
+    let up = price_at(line, at, Part::UpPrice)?;
+    let down = price_at(line, at + 1, Part::DownPrice)?;
+    line.end(at + 2, Expected(Part::End))?;
+    Ok(Some(Reading { demand, up, down }))
+}
 
-    fn numeral(&self, at: usize, part: Part, places: usize) -> Result<Numeral, WordFault>
-        requires { places ≤ 3 }
-        ensures { read_number result ≡ result_and_then (number_at places (words_in self.now) at part) (λ n. Ok (capped n)) }
-    {
-        Numeral::read(self.word(at, part)?, places).ok_or(expected(at, part))
+/// What the line says of each of its slots.
+pub(crate) fn told_by(line: &Line<'_>, range: Range) -> Result<Slot, WordFault>
+    requires { (range.first ≤ range.last) × (range.last < SLOTS) }
+    ensures { result ≡ told_by (words_in line.now) range }
+{
+    if line.has(1, b"unreported") {
+        line.end(2, Expected(Part::End))?;
+        return Ok(None);
     }
-
-    fn price(&self, at: usize, part: Part) -> Result<Option<Price>, WordFault>
-        ensures { result ≡ price_at (words_in self.now) at part }
-    {
-        if self.has(at, b"-") {
-            return Ok(None);
-        }
-        let numeral = self.numeral(at, part, 2)?;
-        Ok(Some(in_bounds(at, Price::new(numeral.value()))?))
+    if line.has(2, b"MWh") {
+        return prices_after(line, 3, energy_at(line, 1, range)?);
     }
-
-    /// The line of the zone net.
-    pub(crate) fn zone_net(&self) -> Result<ZoneNet, WordFault>
-        ensures { result ≡ zone_net_line (words_in self.now) }
-    {
-        self.keyword(0, Part::Net, b"net")?;
-        let numeral = self.numeral(1, Part::ZoneNet, 0)?;
-        let zone_net = in_bounds(1, ZoneNet::new(numeral.value()))?;
-        self.end(2)?;
-        Ok(zone_net)
-    }
-
-    /// The line of the avoided value.
-    pub(crate) fn avoided(&self) -> Result<Option<Price>, WordFault>
-        ensures { result ≡ avoided_line (words_in self.now) }
-    {
-        self.keyword(0, Part::Avoided, b"avoided")?;
-        let avoided = self.price(1, Part::AvoidedValue)?;
-        self.end(2)?;
-        Ok(avoided)
-    }
-
-    /// Whether the line is of the slots that no line names.
-    pub(crate) fn is_of_others(&self) -> bool
-        ensures { result ≡ is_of_others (words_in self.now) }
-    {
-        self.has(0, b"others")
-    }
-
-    /// What the line of those slots says of each of them.
-    pub(crate) fn others(&self) -> Result<Slot, WordFault>
-        ensures { result ≡ others_line (words_in self.now) }
-    {
-        self.keyword(1, Part::Unreported, b"unreported")?;
-        self.end(2)?;
-        Ok(None)
-    }
-
-    /// The slots that a line names.
-    pub(crate) fn range(&self) -> Result<Range, WordFault>
-        ensures reads { result ≡ range_line (words_in self.now) }
-        ensures within { IfOk result (λ r. (r.first ≤ r.last) × (r.last < SLOTS)) }
-    {
-        Range::of(self.word(0, Part::Slots)?)
-    }
-
-    fn demand(&self, at: usize) -> Result<Demand, WordFault>
-        ensures { result ≡ quantity_at demand_of 0 (words_in self.now) at part.Demand }
-    {
-        let numeral = self.numeral(at, Part::Demand, 0)?;
-        in_bounds(at, Demand::new(numeral.value()))
-    }
-
-    // The demand in each slot of energy over these.
-    fn energy(&self, at: usize, range: Range) -> Result<Demand, WordFault>
-        requires { (range.first ≤ range.last) × (range.last < SLOTS) }
-        ensures { result ≡ energy_at (words_in self.now) at range }
-    {
-        let energy = self.numeral(at, Part::Demand, 3)?;
-        power(at, range, energy)
-    }
-
-    // A demand, and the two prices from the word `at` to the line's end.
-    fn prices(&self, at: usize, demand: Demand) -> Result<Slot, WordFault>
-        requires { at ≤ 3 }
-        ensures { result ≡ prices_after (words_in self.now) at demand }
-    {
-        let up = self.price(at, Part::UpPrice)?;
-        let down = self.price(at + 1, Part::DownPrice)?;
-        self.end(at + 2)?;
-        Ok(Some(Reading { demand, up, down }))
-    }
-
-    /// What the line says of each of its slots.
-    pub(crate) fn told(&self, range: Range) -> Result<Slot, WordFault>
-        requires { (range.first ≤ range.last) × (range.last < SLOTS) }
-        ensures { result ≡ told_by (words_in self.now) range }
-    {
-        if self.has(1, b"unreported") {
-            self.end(2)?;
-            return Ok(None);
-        }
-        if self.has(2, b"MWh") {
-            return self.prices(3, self.energy(1, range)?);
-        }
-        self.prices(2, self.demand(1)?)
-    }
+    prices_after(line, 2, demand_at(line, 1)?)
 }

@@ -4,9 +4,7 @@ use crate::fault::{Part, Problem, TextFault};
 use crate::hint::hint;
 use std::fmt;
 use units::OutOfBounds;
-
-/// The most bytes of a word that are shown.
-const SHOWN: usize = 40;
+use words::Found;
 
 impl fmt::Display for Part {
     fn fmt<W: fmt::Write>(&self, f: &mut fmt::Formatter<W>) -> fmt::Result {
@@ -37,44 +35,11 @@ impl fmt::Display for Part {
     }
 }
 
-/// The bytes of a word, those that are no visible characters of ASCII by their numbers.
-#[derive(Clone, Copy)]
-struct Shown<'a>(&'a [u8]);
-
-impl fmt::Display for Shown<'_> {
-    fn fmt<W: fmt::Write>(&self, f: &mut fmt::Formatter<W>) -> fmt::Result {
-        for byte in self.0.iter().take(SHOWN) {
-            if byte.is_ascii_graphic() {
-                write!(f, "{}", char::from(*byte))?;
-            } else {
-                write!(f, "\\x{byte:02x}")?;
-            }
-        }
-        if self.0.len() > SHOWN {
-            write!(f, "..")?;
-        }
-        Ok(())
-    }
-}
-
 /// A fault of a text with the word at which it stands, as a line for people.
 #[derive(Clone, Copy)]
 pub struct Message<'a> {
     pub fault: TextFault,
     pub word: Option<&'a [u8]>,
-}
-
-/// What stands where a fault is.
-#[derive(Clone, Copy)]
-struct Found<'a>(Option<&'a [u8]>);
-
-impl fmt::Display for Found<'_> {
-    fn fmt<W: fmt::Write>(&self, f: &mut fmt::Formatter<W>) -> fmt::Result {
-        match self.0 {
-            Some(word) => write!(f, "`{}`", Shown(word)),
-            None => write!(f, "the end of the line"),
-        }
-    }
 }
 
 /// What is wrong with a word.

@@ -1,13 +1,13 @@
 // The slots that a word names.
 ghost use Rattle.std.specs.Prelude.{◌≡◌, ◌*◌, ◌<◌, ◌≤◌, IfOk, ◌==◌};
 ghost use Rattle.std.specs.List.{position};
-ghost use Rattle.quarter_text.specs.Marks.{dash};
+ghost use Rattle.words.specs.Marks.{dash};
 ghost use Rattle.quarter_text.specs.Ranges.{numbered, range_of, slot_of, slots_from_to, weight_of_range};
 
-use crate::decimal::{digits, first_at};
-use crate::fault::{Part, Problem, WordFault, at_word, expected};
+use crate::fault::{Part, Problem, WordFault};
 use crate::product::product_named;
 use source::{CYCLES, SLOTS, weight_of};
+use words::{at_word, digits, first_at};
 
 /// The slots from the first to the last.
 #[derive(Clone, Copy)]
@@ -56,7 +56,10 @@ fn slot_of(word: &[u8]) -> Result<usize, WordFault>
     ensures reads { result ≡ slot_of word.now }
     ensures within { IfOk result (λ k. k < SLOTS) }
 {
-    let slot = digits(word).ok_or(expected(0, Part::Slots))?;
+    let slot = digits(word).ok_or(WordFault {
+        word: 0,
+        problem: Problem::Expected(Part::Slots),
+    })?;
     if slot >= SLOTS as u64 {
         return at_word(0, Problem::NoSuchSlot);
     }

@@ -5,8 +5,8 @@ ghost use Rattle.quarter_text.specs.declared.reader.TheConstants.{MOST_LINES};
 
 use crate::draft::Draft;
 use crate::fault::TextFault;
-use crate::line::Line;
 use crate::quarter::TextQuarter;
+use words::Line;
 
 /// The lines after these have the number of the last.
 const MOST_LINES: usize = usize::MAX;
@@ -54,7 +54,7 @@ impl TextReader {
         if let Some(fault) = self.refused {
             return Err(fault);
         }
-        if let Err(fault) = self.draft.take(line, Line::of(bytes)) {
+        if let Err(fault) = self.draft.take(line, &Line::of(bytes)) {
             let fault = fault.in_line(line);
             self.refused = Some(fault);
             return Err(fault);

@@ -1,6 +1,6 @@
 use Rattle.std.proofs.Common.{rules, ◌≡◌, ◌+◌, true, IfSome, sym, ap, subst, arith}
+use Rattle.words.specs.Inputs.{IsNextLine}
 use Rattle.quarter_text.specs.Readers.{HasWordOf, accepted}
-use Rattle.quarter_text.specs.Steps.{IsNextLine}
 use Rattle.quarter_text.proofs.InputSteps.{Stands, hand_refused, stands_first, stands_next, stands_refused}
 use Rattle.quarter_text.proofs.input.read_quarter_from.Goals as goal
 

@@ -3,9 +3,9 @@ use Rattle.std.proofs.lemmas.Iterator.Consumers.{YieldsList-at}
 use Rattle.std.proofs.lemmas.Iterator.Splits.{YieldsList-from_slice_split}
 use Rattle.std.proofs.lemmas.Result.{err_from_is_err_and}
 use borrow.Author.Tests.{tests}
+use Rattle.words.specs.Words.{lines_of}
 use Rattle.quarter_text.specs.Readers.{HasRead}
 use Rattle.quarter_text.specs.Steps.{ReadsAll}
-use Rattle.quarter_text.specs.Words.{lines_of}
 use Rattle.quarter_text.proofs.LineSteps.{all_given, lines_few, refused_given}
 use Rattle.quarter_text.proofs.reading.reader_of.Goals as goal
 
