@@ -2,10 +2,11 @@
 #![tactic(auto)]
 
 use command::{Failure, Manual, Program, Status, Takes, run};
-use quarter_text::{Message, nth_word, read_quarter_from};
+use quarter_text::{Message, read_quarter_from};
 use std::io::{BufReader, Eprint, Read};
 use std::process::ExitCode;
 use std::rt::Runtime;
+use words::nth_word;
 use writing::sheet_vec;
 
 struct Pack;

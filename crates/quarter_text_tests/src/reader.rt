@@ -1,10 +1,9 @@
 // Texts that are read line by line.
-use quarter_text::{
-    Problem, TextFault, TextReader, nth_word, read_quarter, read_quarter_from, word_of,
-};
+use quarter_text::{Problem, TextFault, TextReader, read_quarter, read_quarter_from};
 use source::PriceSource;
 use std::io::Cursor;
 use std::test::Fail;
+use words::{nth_word, word_of};
 
 #[test]
 fn lines_one_by_one(rt: HostRuntime) -> Result<(), Fail> {
@@ -35,7 +34,7 @@ fn after_a_refusal(rt: HostRuntime) {
 }
 
 #[test]
-fn words(rt: HostRuntime) {
+fn words_by_place(rt: HostRuntime) {
     let line = b"\t0-9  5 MWh# 1 2";
     let cases = [
         (0, Some(b"0-9".as_slice())),

@@ -1,7 +1,8 @@
 // What the library makes of a text.
-use quarter_text::{Message, Problem, TextFault, quarter_text, read_quarter, word_of};
+use quarter_text::{Message, Problem, TextFault, quarter_text, read_quarter};
 use std::alloc::{AllocError, Global};
 use std::test::Fail;
+use words::word_of;
 use writing::sheet_vec;
 
 /// A text with a megabyte of the middle part.
