@@ -1,5 +1,5 @@
 -- Numerals: digits, a point, decimals, and a minus sign.
-use Rattle.std.specs.Prelude.{ℕ, ◌+◌, ◌-◌, ◌*◌, ◌^◌, min, Bool, true, false, List, [], ◌∷◌, length, take, drop, ℤ, pos, neg_ℤ, Some, None, Option, ◌==◌, nat_le, option_and_then, if◌then◌else◌}
+use Rattle.std.specs.Prelude.{◌≡◌, ℕ, ◌+◌, ◌-◌, ◌*◌, ◌^◌, min, Bool, true, false, List, [], ◌∷◌, length, take, drop, ℤ, pos, neg_ℤ, Some, None, Option, ◌==◌, nat_le, option_and_then, if◌then◌else◌}
 use Rattle.std.specs.Char.{is_ascii_digit}
 use Rattle.std.specs.List.{position}
 use Rattle.std.specs.Option.{option_map}
@@ -59,6 +59,10 @@ numeral places (b ∷ w) = if b == dash then with_sign true (unsigned_numeral pl
 -- the number as a whole one, with its sign
 abbrev pub integer_of : Number → ℤ
 integer_of n = if n.negative then neg_ℤ (pos n.size) else pos n.size
+
+-- the number as which greater ones are read
+abbrev pub CapNumber : Type 0
+CapNumber = READ_AT_MOST ≡ 1_000_000_000_000
 
 -- as numerals are read: a number that is greater than READ_AT_MOST as that one
 abbrev pub capped : Number → Number

@@ -2,7 +2,7 @@
 ghost use Rattle.std.specs.Prelude.{◌≡◌, ◌^◌, ◌<◌, ◌≤◌, IfSome, length, min, ◌==◌};
 ghost use Rattle.std.specs.List.{position};
 ghost use Rattle.std.specs.Option.{option_map};
-ghost use Rattle.words.specs.Numerals.{digits, unsigned_numeral};
+ghost use Rattle.words.specs.Numerals.{CapNumber, digits, unsigned_numeral};
 ghost use Rattle.words.specs.declared.decimal.TheConstants.{READ_AT_MOST};
 
 /// Larger numbers are read as this one.
@@ -13,6 +13,7 @@ pub const READ_AT_MOST: u64 = 1_000_000_000_000;
 pub fn digits(word: &[u8]) -> Option<u64>
     ensures reads { result ≡ option_map (min READ_AT_MOST) (digits word.now) }
     ensures bound { IfSome result (λ n. n ≤ READ_AT_MOST) }
+    ensures number { CapNumber }
 {
     if word.is_empty() {
         return None;
