@@ -5,10 +5,11 @@ ghost use Rattle.words.specs.declared.decimal.TheConstants.{READ_AT_MOST};
 use crate::decimal::unsigned_numeral;
 use crate::places::Places;
 
-/// A number of so many units, the least decimal being one.
+/// A number of so many units, the last decimal being one.
 #[derive(Clone, Copy)]
 pub struct Numeral {
     pub negative: bool,
+    /// At most `READ_AT_MOST`.
     pub size: u64,
     ghost small: { size ≤ READ_AT_MOST },
 }
