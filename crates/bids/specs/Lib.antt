@@ -1,3 +1,4 @@
+pub mod Numbers
 pub mod Bids
 pub mod Merit
 pub mod laws

@@ -1,5 +1,6 @@
 // A bid: a quantity that is offered at a price, under a number.
 ghost use Rattle.std.specs.Prelude.{◌≡◌, ◌≤◌};
+ghost use Rattle.bids.specs.Numbers.{number_made};
 ghost use Rattle.bids.specs.declared.bid.TheConstants.{MOST_QUANTITY};
 
 use crate::fault::BidFault;
@@ -29,11 +30,18 @@ impl Bid {
         if kw < 1 || kw > i64::from(MOST_QUANTITY) {
             return Err(BidFault::Quantity);
         }
-        let number = u16::try_from(number).map_err(|_| BidFault::Number)?;
+        let number = bid_number(number)?;
         Ok(Bid {
             price,
             kw: kw as u32,
             number,
         })
     }
+}
+
+/// The number of a bid. Refused with 5 where it is not from 0 to 65,535.
+pub fn bid_number(number: i64) -> Result<u16, BidFault>
+    ensures { result ≡ number_made number }
+{
+    u16::try_from(number).map_err(|_| BidFault::Number)
 }

@@ -1,5 +1,5 @@
 // Why plain numbers make no bid.
-ghost use Rattle.bids.specs.Bids.{refusal_number, refusal_place};
+ghost use Rattle.bids.specs.Numbers.{refusal_number, refusal_place};
 
 use units::Refusal;
 

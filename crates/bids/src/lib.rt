@@ -6,7 +6,7 @@ mod fault;
 mod kinds;
 mod row;
 
-pub use bid::{Bid, MOST_QUANTITY};
+pub use bid::{Bid, MOST_QUANTITY, bid_number};
 pub use fault::BidFault;
 pub use kinds::{DownBid, MOST_BIDS, UpBid};
 pub use row::BidRow;

@@ -1,0 +1,5 @@
+pub mod Refusals
+pub mod Lines
+pub mod Making
+pub mod Standings
+pub mod Texts
