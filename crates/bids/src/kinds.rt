@@ -37,11 +37,17 @@ impl From<Bid> for DownBid {
 impl Item for UpBid {
     ghost use Rattle.bids.specs.Merit.{up_order};
     ghost use Rattle.bids.specs.laws.Strict.{up_is_strict};
+    ghost use Rattle.ladders.specs.laws.Unsaid.{not_by_number};
+    ghost use Rattle.std.specs.Prelude.{false};
     ghost use Rattle.bids.specs.declared.kinds.TheConstants.{MOST_BIDS};
 
     const MOST: usize = MOST_BIDS;
 
+    const BY_NUMBER: bool = false;
+
     ghost MOST = { MOST_BIDS };
+
+    ghost BY_NUMBER = { false };
 
     ghost order = { up_order };
 
@@ -54,16 +60,24 @@ impl Item for UpBid {
     }
 
     ghost is_strict = { up_is_strict };
+
+    ghost goes_by_number = { not_by_number up_order };
 }
 
 impl Item for DownBid {
     ghost use Rattle.bids.specs.Merit.{down_order};
     ghost use Rattle.bids.specs.laws.Strict.{down_is_strict};
+    ghost use Rattle.ladders.specs.laws.Unsaid.{not_by_number};
+    ghost use Rattle.std.specs.Prelude.{false};
     ghost use Rattle.bids.specs.declared.kinds.TheConstants.{MOST_BIDS};
 
     const MOST: usize = MOST_BIDS;
 
+    const BY_NUMBER: bool = false;
+
     ghost MOST = { MOST_BIDS };
+
+    ghost BY_NUMBER = { false };
 
     ghost order = { down_order };
 
@@ -76,4 +90,6 @@ impl Item for DownBid {
     }
 
     ghost is_strict = { down_is_strict };
+
+    ghost goes_by_number = { not_by_number down_order };
 }

@@ -1,5 +1,5 @@
 -- Each call leads from what is sound to what is sound.
-use Rattle.std.proofs.Common.{◌≡◌, ◌≢◌, ◌↔◌, ℕ, ◌+◌, ◌<◌, ◌==◌, Bool, true, false, not, List, [], ◌∷◌, length, if◌then◌else◌, Some, None, Ok, Err, Option, is_some, nat_lt, ok_or, refl, sym, ap, ◌∙◌, subst, arith}
+use Rattle.std.proofs.Common.{◌≡◌, ◌≢◌, ◌↔◌, ℕ, ◌+◌, ◌<◌, ◌==◌, Bool, true, false, not, List, [], ◌∷◌, length, if◌then◌else◌, Some, None, Ok, Err, Option, Result, is_some, nat_lt, ok_or, refl, sym, ap, ◌∙◌, subst, arith}
 use Rattle.std.specs.List.{Contains, count_by}
 use Rattle.std.specs.Option.{option_map_or, unwrap_or}
 use Rattle.std.proofs.lemmas.Bool.{eqb-true, ltb-true, true≢false}
@@ -7,7 +7,7 @@ use Rattle.std.proofs.lemmas.List.Edits.{length-insert}
 use Rattle.std.proofs.lemmas.List.Kept.{AllPairs-filter}
 use Rattle.std.proofs.lemmas.List.Sums.{count_by-le-length, sum_by-cons}
 use Rattle.ladders.specs.Ladders.{IsSoundCall, Leads, items_in, places_in}
-use Rattle.ladders.specs.Lists.{adding_fault, item_of, rank_of, stands, with_item, without}
+use Rattle.ladders.specs.Lists.{adding_answer, adding_fault, withdrawing_answer, after_adding, after_withdrawing, item_of, rank_of, stands, with_item, without}
 use Rattle.ladders.specs.Orders.{HasNumbersOnce, IsStrict, Order}
 use Rattle.ladders.specs.Runs.{AllAnswered, Did, Event, Run, Sound, adding, adds, after, begun, count_after, fault_of, made_of, standing_after, withdrawing, withdraws}
 use Rattle.ladders.specs.declared.fault.LadderFault.{LadderFault}
@@ -135,13 +135,18 @@ module _ {T : Type 0} (o : Order T) (strict : IsStrict o) (places : ℕ) where
   run_sound _ _ begun = record { exact = exactly o [] [] (λ i j d lt short. absurd (omega arith)) (λ n. refl); under_number = λ n. refl; in_order = λ i j d lt short. absurd (omega arith); numbers_once = λ i j d lt short. absurd (omega arith); counted = refl; within = omega arith; answers = tt }
   run_sound _ _ (after h e l l' run did) = step o strict places h l (run_sound h l run) e l' did
 
-module _ {T : Type 0} {g : _} (o : Order T) (strict : IsStrict o) (most : ℕ) (e : Event T) (b b' : Ladder T g) (did : Did o (places_in most b) e (items_in b) (items_in b')) (same : places_in most b' ≡ places_in most b) where
-  did_at : (places : ℕ) (h : List (Event T)) → Leads o most places h b → Did o places e (items_in b) (items_in b')
-  did_at places h led = subst (λ n. Did o n e (items_in b) (items_in b')) led.places_are did
-
+module _ {T : Type 0} {g : _} (o : Order T) (strict : IsStrict o) (most : ℕ) (b b' : Ladder T g) (same : places_in most b' ≡ places_in most b) where
   -- a call that did what it says is sound after every run
-  pub sound_call : IsSoundCall o most e b b'
-  sound_call = record {
-    run = λ places h led. record { places_are = same ∙ led.places_are; run = after h e _ _ led.run (did_at places h led) };
-    sound = λ places h led. run_sound o strict places _ _ (after h e _ _ led.run (did_at places h led));
-  }
+  sound_call : (e : Event T) → Did o (places_in most b) e (items_in b) (items_in b') → IsSoundCall o most e b b'
+  sound_call e did =
+      let at : (places : ℕ) (h : List (Event T)) → Leads o most places h b → Did o places e (items_in b) (items_in b') = λ places h led. subst (λ n. Did o n e (items_in b) (items_in b')) led.places_are did in
+      record {
+        run = λ places h led. record { places_are = same ∙ led.places_are; run = after h e _ _ led.run (at places h led) };
+        sound = λ places h led. run_sound o strict places _ _ (after h e _ _ led.run (at places h led));
+      }
+
+  pub sound_adding : (x : T) (a : Result ℕ LadderFault) → a ≡ adding_answer o (places_in most b) x (items_in b) → items_in b' ≡ after_adding o x a (items_in b) → IsSoundCall o most (adding x a) b b'
+  sound_adding x a answered left = sound_call (adding x a) (answered, left)
+
+  pub sound_withdrawing : (n : ℕ) (a : Result T LadderFault) → a ≡ withdrawing_answer o n (items_in b) → items_in b' ≡ after_withdrawing o n a (items_in b) → IsSoundCall o most (withdrawing n a) b b'
+  sound_withdrawing n a answered left = sound_call (withdrawing n a) (answered, left)

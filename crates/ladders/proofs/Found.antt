@@ -1,14 +1,13 @@
 -- What is found under a number with one item more, and without those of a number.
-use Rattle.std.proofs.Common.{◌≡◌, ℕ, ◌<◌, ◌==◌, nat_lt, Bool, true, false, not, List, [], ◌∷◌, length, take, drop, get_or, slice_get, Some, None, Ok, Err, Option, is_some, ok_or, if◌then◌else◌, refl, sym, ap, ◌∙◌, arith}
+use Rattle.std.proofs.Common.{◌≡◌, ℕ, ◌<◌, ◌==◌, nat_lt, Bool, true, false, not, List, [], ◌∷◌, length, take, drop, get_or, slice_get, Some, None, Option, is_some, option_and_then, if◌then◌else◌, refl, sym, ap, ◌∙◌, arith}
 use Rattle.std.specs.List.{Contains, find, insert, position, position_or_len}
 use Rattle.std.specs.Option.{option_or}
-use Rattle.std.proofs.lemmas.Bool.{eq-eqb, eqb-false, eqb-true, ltb-false, ltb-true, ne_eqb, true≢false}
+use Rattle.std.proofs.lemmas.Bool.{eq-eqb, eqb-false, eqb-true, ltb-false, ltb-true, ne_eqb}
 use Rattle.std.proofs.lemmas.List.{take-append-drop}
 use Rattle.std.proofs.lemmas.List.Folds.{find-append, find_at}
 use Rattle.std.proofs.lemmas.List.Sums.{position_or_len_is}
 use Rattle.std.proofs.lemmas.Option.{get_or_from_slice_get, slice_get-get_or, slice_get_past, slice_get_within}
-use Rattle.ladders.specs.Lists.{item_of, withdrawing_answer, without}
-use Rattle.ladders.specs.declared.fault.LadderFault.TheVariants.{NotStanding}
+use Rattle.ladders.specs.Lists.{item_of, without}
 use Rattle.ladders.specs.Orders.{HasNumbersOnce, Order}
 
 module _ {X : Type 0} (p : X → Bool) where
@@ -86,24 +85,10 @@ module _ {X : Type 0} (p : X → Bool) (l : List X) where
   pub placed : (i : ℕ) → position p l ≡ Some i → (i ≡ position_or_len p l) × (i < length l)
   placed i e = by_place (position_or_len p l) i (nat_lt (position_or_len p l) (length l)) refl e
 
-  -- what stands there is what is found
-  pub found_there : (i : ℕ) (d : X) → position p l ≡ Some i → find p l ≡ Some (get_or l i d)
-  found_there i d e =
-      let at = placed i e in
-      find_at p l ∙ ap (slice_get l) (sym at.0) ∙ slice_get-get_or l i d at.1
+  by_position : (k : ℕ) (room : Bool) → nat_lt k (length l) ≡ room → slice_get l k ≡ option_and_then (λ i. slice_get l i) (if room then Some k else None)
+  by_position k true e = refl
+  by_position k false e = slice_get_past l k (ltb-false k (length l) e)
 
-  none_by : (o : Option X) → is_some o ≡ false → o ≡ None
-  none_by None e = refl
-  none_by (Some x) e = absurd (true≢false e)
-
-  -- where nothing is placed, nothing is found
-  pub none_there : position p l ≡ None → find p l ≡ None
-  none_there e = none_by (find p l) (sym placed_where_found ∙ ap is_some e)
-
--- what withdrawing answers, by the place at which the number is looked up
-module _ {T : Type 0} (o : Order T) (n : ℕ) (l : List T) where
-  pub answered_none : position (λ y. o.number y == n) l ≡ None → Err (NotStanding n) ≡ withdrawing_answer o n l
-  answered_none e = sym (ap (λ z. ok_or z (NotStanding n)) (none_there (λ y. o.number y == n) l e))
-
-  pub answered_item : (i : ℕ) (d : T) → position (λ y. o.number y == n) l ≡ Some i → Ok (get_or l i d) ≡ withdrawing_answer o n l
-  answered_item i d e = sym (ap (λ z. ok_or z (NotStanding n)) (found_there (λ y. o.number y == n) l i d e))
+  -- what is found stands at the place
+  pub found_at_place : find p l ≡ option_and_then (λ i. slice_get l i) (position p l)
+  found_at_place = find_at p l ∙ by_position (position_or_len p l) (nat_lt (position_or_len p l) (length l)) refl

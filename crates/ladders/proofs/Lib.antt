@@ -1,5 +1,6 @@
 mod Moved
-mod Ordered
 mod Found
+mod Ordered
+mod Searched
 mod Stepped
 mod EveryRun

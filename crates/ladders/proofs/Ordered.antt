@@ -1,6 +1,6 @@
 -- Where an item stands in an order, and what putting one in and taking one out leaves of the order.
 use Rattle.std.proofs.Common.{◌≡◌, ◌≢◌, ℕ, zero, suc, ◌+◌, ◌-◌, ◌<◌, ◌≤◌, ◌==◌, inl, inr, Bool, true, false, not, List, [], ◌∷◌, length, take, get_or, Some, Option, is_some, if◌then◌else◌, refl, sym, ap, ◌∙◌, subst, arith}
-use Rattle.std.specs.List.{AllPairs, count_by, find, insert, position_or_len, filter, remove}
+use Rattle.std.specs.List.{AllPairs, count_by, find, insert, position, position_or_len, filter, remove}
 use Rattle.std.specs.List.Sorted.{IsPartitionPoint, IsPartitionedBy}
 use Rattle.std.proofs.lemmas.Bool.{both_ways, cases_Bool, cases_lt, eq-eqb, eqb-true, ne_eqb, not-false, not-true, true≢false}
 use Rattle.std.proofs.lemmas.List.{take_all}
@@ -8,6 +8,7 @@ use Rattle.std.proofs.lemmas.List.Edits.{get_or-insert_above, get_or-insert_at, 
 use Rattle.std.proofs.lemmas.List.Sums.{count_by-le-length, count_by_more_no, count_by_more_yes, fails_before_first, passes_at_first, prefix_len-le-length}
 use Rattle.std.proofs.lemmas.List.Folds.{find_at}
 use Rattle.std.proofs.lemmas.Option.{slice_get_past}
+use Rattle.ladders.proofs.Found.{placed}
 use Rattle.ladders.specs.Lists.{rank_of, stands, with_item, without, item_of}
 use Rattle.ladders.specs.Orders.{HasNumbersOnce, IsInOrder, IsStrict, Order}
 
@@ -162,3 +163,9 @@ module _ {T : Type 0} (o : Order T) (n : ℕ) (l : List T) (once : HasNumbersOnc
   length-without e =
       let lt : at < length l = found_within e in
       ap (λ m. length m + 1) (without-at lt) ∙ length-remove l at lt
+
+  -- what is left without the item at the place of the number
+  pub without_found : (i : ℕ) → Some i ≡ position (λ y. o.number y == n) l → remove l i ≡ without o n l
+  without_found i e =
+      let place = placed (λ y. o.number y == n) l i (sym e) in
+      ap (remove l) place.0 ∙ sym (without-at (subst (λ k. k < length l) place.0 place.1))

@@ -1,14 +1,13 @@
 -- What stands in the memory after an item is put in or taken out.
-use Rattle.std.proofs.Common.{◌≡◌, ◌≢◌, ℕ, ◌+◌, ◌-◌, ◌<◌, ◌≤◌, ◌==◌, true, false, not, List, ◌++◌, length, take, drop, get_or, Some, sym, ap, ◌∙◌, subst, arith}
-use Rattle.std.specs.List.{AllPairs, insert, position, position_or_len, remove}
+use Rattle.std.proofs.Common.{◌≡◌, ◌≢◌, ℕ, ◌+◌, ◌-◌, ◌<◌, ◌≤◌, true, false, List, ◌++◌, length, take, drop, get_or, sym, ap, ◌∙◌, subst, arith}
+use Rattle.std.specs.List.{AllPairs, insert, remove}
 use Rattle.std.proofs.lemmas.List.{get_or-take, length-append, length-drop, length-take-le, take_at}
 use Rattle.std.proofs.lemmas.List.Edits.{length-insert, length-remove}
-use Rattle.std.proofs.lemmas.List.Kept.{AllPairs-filter}
+use Rattle.std.proofs.lemmas.List.Quantifiers.{all_pairs_remove}
 use Rattle.std.proofs.lemmas.List.Sums.{count_by-le-length}
-use Rattle.ladders.specs.Lists.{rank_of, stands, with_item, without}
+use Rattle.ladders.specs.Lists.{rank_of, stands, with_item}
 use Rattle.ladders.specs.Orders.{HasNumbersOnce, IsInOrder, IsStrict, Order}
-use Rattle.ladders.proofs.Found.{placed}
-use Rattle.ladders.proofs.Ordered.{in_order-with, numbers_once-with, without-at}
+use Rattle.ladders.proofs.Ordered.{in_order-with, numbers_once-with}
 
 -- a front part of a list keeps what each two of it keep
 pairs-take : {X : Type 0} (R : X → X → Type 0) (k n : ℕ) (l : List X) → k ≤ n → n ≤ length l → AllPairs R (take n l) → AllPairs R (take k l)
@@ -45,27 +44,18 @@ module _ {T : Type 0} (o : Order T) (count : ℕ) (old new : List T) where
       pub once-then : HasNumbersOnce o (take (count + 1) new)
       once-then = subst (HasNumbersOnce o) (sym with_item-stands) (numbers_once-with o strict x (take count old) order fresh once)
 
-  module _ (n at : ℕ) (room : count ≤ length old) (once : HasNumbersOnce o (take count old)) (found : position (λ y. o.number y == n) (take count old) ≡ Some at) where
-    place : (at ≡ position_or_len (λ y. o.number y == n) (take count old)) × (at < length (take count old))
-    place = placed (λ y. o.number y == n) (take count old) at found
-
-    pub at_below : at < count
-    at_below = omega (arith, place.1, length-take-le count old room)
-
+  module _ (at : ℕ) (room : count ≤ length old) (within : at < length (take count old)) (made : new ≡ remove (take count old) at ++ drop (count - 1) old) where
     short : length (remove (take count old) at) ≡ count - 1
-    short = omega (arith, place.1, length-remove (take count old) at place.1, length-take-le count old room)
+    short = omega (arith, within, length-remove (take count old) at within, length-take-le count old room)
 
-    module _ (made : new ≡ remove (take count old) at ++ drop (count - 1) old) where
-      pub without-stands : take (count - 1) new ≡ without o n (take count old)
-      without-stands =
-          ap (take (count - 1)) made ∙ take_at (remove (take count old) at) (drop (count - 1) old) (count - 1) short ∙ ap (remove (take count old)) place.0
-          ∙ sym (without-at o n (take count old) once (subst (λ k. k < length (take count old)) place.0 place.1))
+    pub rest-stands : take (count - 1) new ≡ remove (take count old) at
+    rest-stands = ap (take (count - 1)) made ∙ take_at (remove (take count old) at) (drop (count - 1) old) (count - 1) short
 
-      pub length-out : length new ≡ length old
-      length-out = ap length made ∙ length-append (remove (take count old) at) (drop (count - 1) old) ∙ omega (arith, short, at_below, length-drop (count - 1) old)
+    pub length-out : length new ≡ length old
+    length-out = ap length made ∙ length-append (remove (take count old) at) (drop (count - 1) old) ∙ omega (arith, short, within, length-take-le count old room, length-drop (count - 1) old)
 
-      pub in_order-out : IsInOrder o (take count old) → IsInOrder o (take (count - 1) new)
-      in_order-out order = subst (IsInOrder o) (sym without-stands) (AllPairs-filter (λ y z. o.is_before y z ≡ true) (λ y. not (o.number y == n)) (take count old) order)
+    pub in_order-out : IsInOrder o (take count old) → IsInOrder o (take (count - 1) new)
+    in_order-out order = subst (IsInOrder o) (sym rest-stands) (all_pairs_remove (λ y z. o.is_before y z ≡ true) (take count old) at within order)
 
-      pub once-out : HasNumbersOnce o (take (count - 1) new)
-      once-out = subst (HasNumbersOnce o) (sym without-stands) (AllPairs-filter (λ y z. o.number y ≢ o.number z) (λ y. not (o.number y == n)) (take count old) once)
+    pub once-out : HasNumbersOnce o (take count old) → HasNumbersOnce o (take (count - 1) new)
+    once-out once = subst (HasNumbersOnce o) (sym rest-stands) (all_pairs_remove (λ y z. o.number y ≢ o.number z) (take count old) at within once)

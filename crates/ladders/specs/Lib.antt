@@ -3,3 +3,4 @@ pub mod Refusals
 pub mod Lists
 pub mod Runs
 pub mod Ladders
+pub mod laws

@@ -2,7 +2,7 @@
 ghost use Rattle.std.specs.Prelude.{◌≡◌, ◌+◌, ◌-◌, ◌<◌, ◌≤◌, ◌==◌, ◌++◌, length, take, drop, insert, remove, IfSome};
 ghost use Rattle.std.specs.List.{position};
 ghost use Rattle.ladders.specs.Lists.{rank_of};
-ghost use Rattle.ladders.specs.Orders.{IsInOrder};
+ghost use Rattle.ladders.specs.Orders.{IsByNumber, IsInOrder};
 
 use crate::item::Item;
 
@@ -15,11 +15,27 @@ pub(crate) fn rank_of<T: Item>(items: &[T], item: T) -> usize
     items.partition_point(|other| other.is_before(item))
 }
 
+// The same, in an order that goes by number, which is searched by halves.
+fn searched<T: Item>(items: &[T], number: u16) -> Option<usize>
+    requires by_number { IsByNumber T.order items.now }
+    ensures first { result ≡ position (λ y. T.order.number y == number) items.now }
+{
+    let place = items.partition_point(|item| item.number() < number);
+    if place < items.len() && items[place].number() == number {
+        return Some(place);
+    }
+    None
+}
+
 /// Where the item of the number stands.
 pub(crate) fn place_of<T: Item>(items: &[T], number: u16) -> Option<usize>
+    requires in_order { IsInOrder T.order items.now }
     ensures first { result ≡ position (λ y. T.order.number y == number) items.now }
     ensures within { IfSome result (λ k. k < length items.now) }
 {
+    if T::BY_NUMBER {
+        return searched(items, number);
+    }
     items.iter().position(|item| item.number() == number)
 }
 

@@ -1,0 +1,2 @@
+-- What a kind of item may cite for the laws of its order.
+pub mod Unsaid
