@@ -1,0 +1,3 @@
+pub mod Mornings
+pub mod Tickets
+pub mod laws
