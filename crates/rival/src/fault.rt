@@ -15,6 +15,10 @@ pub(crate) enum Refusal {
     PartyOutOfRange = 10,
     QuarterClosed = 11,
     QuarterBlank = 12,
+    Full = 17,
+    Standing = 18,
+    NotStanding = 19,
+    BidQuantity = 20,
 }
 
 impl Refusal {

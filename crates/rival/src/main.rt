@@ -1,5 +1,5 @@
-// Works out prices and payments a second way, and compares each with what the library gives. There is a line for each
-// named case and for each hundred of the others, and a closing count.
+// Works out prices, payments and the order of bids a second way, and compares each with what the library gives. There is a
+// line for each named case and for each span of the others, and a closing count.
 #![tactic(auto)]
 
 mod answers;
@@ -10,12 +10,16 @@ mod fault;
 mod fraction;
 mod generator;
 mod ledger;
+mod merit;
+mod merit_edges;
+mod merit_runs;
 mod outcome;
 mod plain;
 mod published;
 mod reader;
 mod report;
 mod rules;
+mod side;
 mod writer;
 
 use command::{Failure, Manual, Status, Takes, ended_by_words, status_of};
@@ -23,6 +27,8 @@ use compare::{compare_sheet, same_table};
 use day::{Day, Metered};
 use edges::{edges, rulebooks};
 use generator::{Dice, KINDS};
+use merit_edges::ladder_edges;
+use merit_runs::ladder_runs;
 use published::CASES;
 use reader::read;
 use report::{Met, Report};
@@ -185,7 +191,7 @@ fn generated(report: &mut Report<'_>, dice: &mut Dice) -> io::Result<()> {
 
 const MANUAL: Manual = Manual {
     name: "rival",
-    summary: "prices and payments worked out a second way, and compared with the library's",
+    summary: "prices, payments and the order of bids worked out a second way, and compared with the library's",
     takes: Takes {
         file: false,
         strict: false,
@@ -204,7 +210,9 @@ fn compare_all(rt: &HostRuntime) -> io::Result<bool> {
     sheets(&mut report)?;
     payments(&mut report)?;
     calls(&mut report, &mut dice)?;
+    ladder_edges(&mut report)?;
     generated(&mut report, &mut dice)?;
+    ladder_runs(&mut report, &mut dice)?;
     report.close()
 }
 

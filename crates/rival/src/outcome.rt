@@ -1,5 +1,6 @@
-// What becomes of the generated sheets, counted.
-use crate::fault::Refusal;
+// What becomes of the generated sheets and of the calls on ladders, counted.
+use crate::fault::{Fault, Refusal};
+use crate::merit::Done;
 use crate::reader::Told;
 use crate::rules::{Quote, Rules, quote_of};
 use std::fmt;
@@ -118,5 +119,60 @@ impl Tallies {
             }
         }
         self.other = self.other.saturating_add(1);
+    }
+}
+
+/// How often a call on a ladder was refused so.
+#[derive(Clone, Copy)]
+pub(crate) struct Refused {
+    pub refusal: Refusal,
+    pub count: u64,
+}
+
+/// The calls on ladders: those that are accepted, and those that are refused, by refusal.
+#[derive(Clone, Copy)]
+pub(crate) struct LadderTallies {
+    pub added: u64,
+    pub withdrawn: u64,
+    pub refused: [Refused; 5],
+}
+
+// The refusals in the order in which they are printed.
+static LADDER_REFUSALS: [Refusal; 5] = [
+    Refusal::Bounds,
+    Refusal::Full,
+    Refusal::Standing,
+    Refusal::NotStanding,
+    Refusal::BidQuantity,
+];
+
+impl LadderTallies {
+    pub(crate) fn new() -> LadderTallies {
+        LadderTallies {
+            added: 0,
+            withdrawn: 0,
+            refused: LADDER_REFUSALS.map(|refusal| Refused { refusal, count: 0 }),
+        }
+    }
+
+    pub(crate) fn add(&mut self, answer: Result<Done, Fault>) {
+        match answer {
+            Ok(Done::Added(_)) => self.added = self.added.saturating_add(1),
+            Ok(Done::Withdrawn(_)) => self.withdrawn = self.withdrawn.saturating_add(1),
+            Err(fault) => {
+                for row in self.refused.iter_mut() {
+                    if row.refusal == fault.refusal {
+                        row.count = row.count.saturating_add(1);
+                    }
+                }
+            }
+        }
+    }
+
+    /// How many calls were counted.
+    pub(crate) fn calls(&self) -> u64 {
+        let accepted = self.added.saturating_add(self.withdrawn);
+        let refused = self.refused.iter();
+        refused.fold(accepted, |sum, row| sum.saturating_add(row.count))
     }
 }

@@ -2,20 +2,24 @@
 use crate::answers::Answers;
 use crate::compare::{Both, Printed, compare_sheet};
 use crate::day::Replies;
-use crate::outcome::Tallies;
+use crate::fault::Fault;
+use crate::merit::{Done, Offer};
+use crate::outcome::{LadderTallies, Tallies};
 use crate::published::{Case, Stated};
 use crate::rules::Euros;
+use crate::side::Called;
 use crate::writer::sheet_of;
 use std::alloc::{AllocError, Global};
 use std::io;
 
-/// The counts so far: cases, differences, and of the generated sheets what became of them.
+/// The counts so far: cases, differences, and of the generated sheets and the calls on ladders what became of them.
 #[derive(Drop)]
 pub(crate) struct Report<'a> {
     rt: &'a HostRuntime,
     cases: u64,
     differences: u64,
     tallies: Tallies,
+    ladder_tallies: LadderTallies,
 }
 
 /// Whether what is stated of a named quarter or sheet is met.
@@ -37,6 +41,7 @@ impl Report<'_> {
             cases: 0,
             differences: 0,
             tallies: Tallies::new(),
+            ladder_tallies: LadderTallies::new(),
         }
     }
 
@@ -158,6 +163,39 @@ impl Report<'_> {
         self.span("quarters", number, 100)
     }
 
+    /// A named ladder: what the last of its calls answers, and what stands then.
+    pub(crate) fn ladder(
+        &mut self,
+        name: &str,
+        answers: &[Called],
+        offers: &[Offer],
+        answer: Result<Done, Fault>,
+        stated: bool,
+    ) -> io::Result<()> {
+        print!(self.rt; "{name}: ")?;
+        match answer {
+            Ok(done) => print!(self.rt; "{done}")?,
+            Err(fault) => print!(self.rt; "! {} {}", fault.refusal.number(), fault.place)?,
+        }
+        for offer in offers.iter() {
+            print!(self.rt; ", {offer}")?;
+        }
+        let met = answers.last().is_some_and(|last| last.rival == answer);
+        self.ended(answers.iter().all(Called::agree) && met && stated)
+    }
+
+    /// Counts a call on a ladder.
+    pub(crate) fn ladder_call(&mut self, called: &Called) -> io::Result<()> {
+        let number = self.ladder_tallies.calls();
+        let same = called.agree();
+        if !same && self.differences == 0 {
+            println!(self.rt; "call {number} on ladders: A DIFFERENCE")?;
+        }
+        self.count(same);
+        self.ladder_tallies.add(called.rival);
+        self.span("calls on ladders", number, 5_000)
+    }
+
     /// The closing lines, and whether no case differs.
     pub(crate) fn close(&self) -> io::Result<bool> {
         println!(self.rt; "other: {}", self.tallies.other)?;
@@ -166,6 +204,11 @@ impl Report<'_> {
         }
         println!(self.rt; "code 11 lifted: {}", self.tallies.lifted)?;
         println!(self.rt; "code 11 lowered: {}", self.tallies.lowered)?;
+        println!(self.rt; "bids added: {}", self.ladder_tallies.added)?;
+        println!(self.rt; "bids withdrawn: {}", self.ladder_tallies.withdrawn)?;
+        for row in self.ladder_tallies.refused.iter() {
+            println!(self.rt; "ladders, refusal {}: {}", row.refusal.number(), row.count)?;
+        }
         println!(self.rt; "{} cases, {} differences", self.cases, self.differences)?;
         Ok(self.differences == 0)
     }

@@ -86,8 +86,8 @@ impl Direction {
         }
     }
 
-    // A number that is mirrored, or mirrored back.
-    fn mirrored(self, number: i64) -> i64 {
+    /// A number that is mirrored, or mirrored back.
+    pub(crate) fn mirrored(self, number: i64) -> i64 {
         match self {
             Direction::Up => number,
             Direction::Down => number.saturating_mul(-1),
