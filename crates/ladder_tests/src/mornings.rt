@@ -1,7 +1,8 @@
 // A morning's calls on a ladder, and its memory afterwards.
-ghost use Rattle.std.specs.Prelude.{◌≤◌, length, take};
+ghost use Rattle.std.specs.Prelude.{◌≡◌, ◌≤◌, length, take, None};
 ghost use Rattle.bids.specs.Merit.{up_order};
 ghost use Rattle.ladder_tests.specs.Mornings.{StandsAfterMorning, bid_places};
+ghost use Rattle.ladders.specs.Lists.{item_of};
 ghost use Rattle.ladders.specs.Orders.{HasNumbersOnce, IsInOrder};
 
 use bids::UpBid;
@@ -13,6 +14,7 @@ pub fn morning(memory: &mut [UpBid], first: UpBid, second: UpBid, number: u16) -
     ensures within { result ≤ length memory.new }
     ensures in_order { IsInOrder up_order (take result memory.new) }
     ensures numbers_once { HasNumbersOnce up_order (take result memory.new) }
+    ensures withdrawn { item_of up_order number (take result memory.new) ≡ None }
     ensures stands { StandsAfterMorning (bid_places (length memory.old)) first second number (take result memory.new) }
 {
     let mut ladder = Ladder::new(memory);
