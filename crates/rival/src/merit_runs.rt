@@ -22,12 +22,13 @@ enum Mix {
     Anywhere,
 }
 
-/// So many calls over a memory of so many places.
+/// So many calls over a memory of so many places, of which each ladder takes so many at once.
 #[derive(Clone, Copy)]
 struct Run {
     places: u16,
     mix: Mix,
     calls: u64,
+    at_once: usize,
 }
 
 // What fills a ladder: an offer for each place, four more, and then four whose numbers stand.
@@ -73,7 +74,7 @@ impl Dice {
         }
     }
 
-    // A narrow number is one of half as many more as there are places.
+    // A narrow number is below one and a half times the places and three more.
     fn bid_number(&mut self, run: &Run, list: &MeritList) -> i64 {
         let few = u64::from(run.places.min(512)) * 3 / 2 + 3;
         match (run.mix, self.roll(12)) {
@@ -85,13 +86,13 @@ impl Dice {
     }
 
     fn drawn_call(&mut self, run: &Run, list: &MeritList) -> Call {
+        let bound = match run.mix {
+            Mix::Narrow => 1,
+            _ => PRICE,
+        };
         if self.roll(5) != 0 {
             return Call::Add(Offer {
-                cents: self.within(if matches!(run.mix, Mix::Narrow) {
-                    1
-                } else {
-                    PRICE
-                }),
+                cents: self.within(bound),
                 kw: self.quantity(),
                 number: self.bid_number(run, list),
             });
@@ -132,10 +133,14 @@ impl Dice {
 impl Run {
     fn play<T: Sided>(&self, report: &mut Report<'_>, dice: &mut Dice) -> io::Result<()> {
         let mut side = Side::<T>::new(report.heap(), self.places)?;
+        let mut calls = Vec::new(report.heap());
         for nth in 0..self.calls {
-            let call = dice.nth_call(self, nth, side.list());
-            for called in side.play(report.heap(), &[call])?.iter() {
-                report.ladder_call(called)?;
+            calls.push(dice.nth_call(self, nth, side.list()))?;
+            if calls.len() >= self.at_once {
+                for called in side.play(report.heap(), calls.as_slice())?.iter() {
+                    report.ladder_call(called)?;
+                }
+                calls.clear();
             }
         }
         Ok(())
@@ -147,8 +152,7 @@ impl Run {
     }
 }
 
-/// Each run over a ladder of each direction.
-pub(crate) fn ladder_runs(report: &mut Report<'_>, dice: &mut Dice) -> io::Result<()> {
+fn drawn_runs(report: &mut Report<'_>, dice: &mut Dice) -> io::Result<()> {
     for (places, calls) in [
         (0, 500),
         (1, 500),
@@ -158,19 +162,36 @@ pub(crate) fn ladder_runs(report: &mut Report<'_>, dice: &mut Dice) -> io::Resul
         (600, 1_815),
     ] {
         for mix in [Mix::Narrow, Mix::Wide] {
-            let run = Run { places, mix, calls };
-            run.play_both(report, dice)?;
-        }
-    }
-    for places in [512, 600] {
-        for mix in [Mix::Rising, Mix::Falling, Mix::Anywhere] {
             let run = Run {
                 places,
                 mix,
-                calls: 1_040,
+                calls,
+                at_once: 1,
             };
             run.play_both(report, dice)?;
         }
     }
     Ok(())
+}
+
+// Over 512 places each call is made on a ladder of its own, over 600 all are made on one.
+fn filling_runs(report: &mut Report<'_>, dice: &mut Dice) -> io::Result<()> {
+    for (places, at_once) in [(512, 1), (600, 1_040)] {
+        for mix in [Mix::Rising, Mix::Falling, Mix::Anywhere] {
+            let run = Run {
+                places,
+                mix,
+                calls: 1_040,
+                at_once,
+            };
+            run.play_both(report, dice)?;
+        }
+    }
+    Ok(())
+}
+
+/// Each run over a ladder of each direction.
+pub(crate) fn ladder_runs(report: &mut Report<'_>, dice: &mut Dice) -> io::Result<()> {
+    drawn_runs(report, dice)?;
+    filling_runs(report, dice)
 }
