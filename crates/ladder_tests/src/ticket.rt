@@ -12,11 +12,16 @@ pub struct Ticket {
 
 impl Item for Ticket {
     ghost use Rattle.ladder_tests.specs.Tickets.{most_tickets, ticket_order};
-    ghost use Rattle.ladder_tests.specs.laws.Strict.{tickets_are_strict};
+    ghost use Rattle.ladder_tests.specs.laws.Strict.{tickets_are_strict, tickets_go_by_number};
+    ghost use Rattle.std.specs.Prelude.{true};
 
     const MOST: usize = 3;
 
+    const BY_NUMBER: bool = true;
+
     ghost MOST = { most_tickets };
+
+    ghost BY_NUMBER = { true };
 
     ghost order = { ticket_order };
 
@@ -29,4 +34,6 @@ impl Item for Ticket {
     }
 
     ghost is_strict = { tickets_are_strict };
+
+    ghost goes_by_number = { tickets_go_by_number };
 }
