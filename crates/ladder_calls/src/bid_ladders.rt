@@ -52,7 +52,8 @@ fn number_of(number: i64) -> Result<u16, CallFault>
 
 impl<'a> BidLadders<'a> {
     ghost use Rattle.std.specs.Prelude.{◌≡◌};
-    ghost use Rattle.ladder_calls.specs.Standings.{Standing, answer_of, down_after, empty, standing_on, up_after};
+    ghost use Rattle.ladder_calls.specs.Standings.{IsSoundStep, answer_of, down_after, down_event, empty, standing_on, up_after, up_event};
+    ghost use Rattle.bids.specs.Merit.{down_order, up_order};
     ghost use Rattle.std.specs.Prelude.{length};
 
     /// Both ladders over the memory that is lent for each, with no bid on them.
@@ -72,6 +73,8 @@ impl<'a> BidLadders<'a> {
         ensures answers { result ≡ answer_of (standing_on self.old) call }
         ensures up_then { (standing_on self.new).up ≡ up_after (standing_on self.old) call }
         ensures down_then { (standing_on self.new).down ≡ down_after (standing_on self.old) call }
+        ensures up_sound { IsSoundStep up_order (up_event (standing_on self.old) call) self.old.up self.new.up }
+        ensures down_sound { IsSoundStep down_order (down_event (standing_on self.old) call) self.old.down self.new.down }
     {
         match call {
             Call::Add(direction, numbers) => {
