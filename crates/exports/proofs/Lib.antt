@@ -1,4 +1,5 @@
 pub mod Days
+pub mod Laddering
 pub mod Metering
 pub mod Only
 pub mod Pricing

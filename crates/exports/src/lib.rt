@@ -2,6 +2,7 @@
 #![tactic(auto)]
 
 pub mod bench_day;
+pub mod bench_ladder;
 pub mod plain;
 pub mod quarter;
 pub mod rewriting;

@@ -31,3 +31,20 @@ pub struct PlainDay {
     pub place: usize,
     pub priced: usize,
 }
+
+/// A bid on a ladder: cents per MWh, kW and its number.
+#[repr(C)]
+#[derive(Clone, Copy)]
+pub struct PlainBid {
+    pub cents: i32,
+    pub kw: u32,
+    pub number: u16,
+}
+
+/// How many bids were added to a ladder, and how many of them withdrawn.
+#[repr(C)]
+#[derive(Clone, Copy)]
+pub struct PlainLadder {
+    pub added: usize,
+    pub withdrawn: usize,
+}
