@@ -1,6 +1,7 @@
 //! The answers of both, side by side.
 
 use crate::ours::Quarter;
+use crate::plain::ladder::MOST_BIDS;
 use crate::random::{self, Random};
 use crate::{ours, plain};
 
@@ -122,4 +123,31 @@ fn day(seed: u64) -> Result<(), String> {
 
 pub fn days(count: u64) -> Result<(), String> {
     (0..count).try_for_each(day)
+}
+
+/// Whether as many bids stood as may.
+fn ladder(seed: u64) -> Result<bool, String> {
+    let mut random = Random::new(seed ^ (1 << 43));
+    let bids = random::bids(&mut random);
+    let mut numbers = random::numbers(&mut random, &bids);
+    // Some numbers are never withdrawn, or withdrawn twice.
+    numbers.truncate(random.below(640));
+    numbers.extend_from_within(..random.below(4).min(numbers.len()));
+    // Places for fewer ranks than bids, or for more.
+    let mut ranks = vec![7; random.below(660)];
+    let mut plain_ranks = ranks.clone();
+    let ours = ours::ladder(&bids, &numbers, &mut ranks);
+    let plain = plain::ladder::ladder(&bids, &numbers, &mut plain_ranks);
+    if ours != plain {
+        return Err(differ("bids on a ladder", seed, &ours, &plain));
+    }
+    if ranks != plain_ranks {
+        return Err(differ("ranks of bids", seed, &ranks, &plain_ranks));
+    }
+    Ok(ours.added == MOST_BIDS)
+}
+
+/// How many of the ladders were full.
+pub fn ladders(count: u64) -> Result<usize, String> {
+    (0..count).try_fold(0, |full, seed| Ok(full + usize::from(ladder(seed)?)))
 }

@@ -9,7 +9,8 @@ mod rows;
 mod timing;
 
 use compare::LONGEST;
-use ours::Quarter;
+use ours::{Bid, Quarter};
+use plain::ladder::MOST_BIDS;
 use random::{Kind, Random};
 use rows::tell;
 use std::hint::black_box;
@@ -18,8 +19,10 @@ use timing::{side_by_side, Pair};
 
 const SHEETS: u64 = 100_000;
 const DAYS: u64 = 500;
+const LADDERS: u64 = 5_000;
 const ROUNDS: usize = 401;
 const POOL: usize = 64;
+const LADDERS_AT_ONCE: usize = 4;
 const PERIODS: usize = 100;
 const PARTIES: usize = 32;
 
@@ -36,6 +39,8 @@ fn compared(count: u64) -> Result<(), String> {
     );
     compare::days(DAYS)?;
     println!("{DAYS} days in the book: the same payments and refusals");
+    let full = compare::ladders(LADDERS)?;
+    println!("{LADDERS} ladders, {full} of them full: the same ranks, and as many bids added and withdrawn");
     Ok(())
 }
 
@@ -128,6 +133,66 @@ fn time_day(periods: usize, kind: Kind) -> Pair {
     )
 }
 
+fn time_ladder(bids: &[Bid], numbers: &[u16]) -> Pair {
+    let (mut a, mut b) = ([0; MOST_BIDS], [0; MOST_BIDS]);
+    side_by_side(
+        ROUNDS,
+        LADDERS_AT_ONCE,
+        || {
+            for _ in 0..LADDERS_AT_ONCE {
+                black_box(ours::ladder(
+                    black_box(bids),
+                    black_box(numbers),
+                    black_box(&mut a),
+                ));
+            }
+        },
+        || {
+            for _ in 0..LADDERS_AT_ONCE {
+                black_box(plain::ladder::ladder(
+                    black_box(bids),
+                    black_box(numbers),
+                    black_box(&mut b),
+                ));
+            }
+        },
+    )
+}
+
+/// As many bids as may stand, with a price for each number.
+fn full_ladder(mut cents: impl FnMut(u16) -> i32) -> Vec<Bid> {
+    (0..MOST_BIDS as u16)
+        .map(|number| Bid {
+            cents: cents(number),
+            kw: 5_000,
+            number,
+        })
+        .collect()
+}
+
+/// Falling prices are the worst order: each bid stands in front of all before it, and where the first is withdrawn all
+/// others move.
+fn time_ladders() {
+    let falling = full_ladder(|number| 10_000 - i32::from(number));
+    let first_added: Vec<u16> = falling.iter().map(|bid| bid.number).collect();
+    let first_standing: Vec<u16> = first_added.iter().rev().copied().collect();
+    tell(
+        "512 bids added in the worst order, the first withdrawn first",
+        &time_ladder(&falling, &first_standing),
+    );
+    tell(
+        "512 bids added in the worst order, the last withdrawn first",
+        &time_ladder(&falling, &first_added),
+    );
+    let mut random = Random::new(1 << 44);
+    let drawn = full_ladder(|_| random.below(20_000) as i32);
+    let numbers = random::numbers(&mut random, &drawn);
+    tell(
+        "512 bids added and withdrawn in a random order",
+        &time_ladder(&drawn, &numbers),
+    );
+}
+
 fn time_rows() {
     for (kind, name) in [(Kind::Mixed, "mixed slots"), (Kind::Steady, "steady slots")] {
         time_sheets(kind, name);
@@ -136,6 +201,7 @@ fn time_rows() {
             &time_day(PERIODS, kind),
         );
     }
+    time_ladders();
 }
 
 fn time_periods() {
@@ -161,7 +227,7 @@ fn time_periods() {
     }
 }
 
-/// A day in the book allocates nothing, nor does pricing or writing.
+/// A day in the book allocates nothing, nor does pricing, writing or a ladder.
 fn measured() -> Result<(), String> {
     let sheet = random::sound(&mut Random::new(1 << 42), Kind::Mixed);
     let (sheets, ends) = (
@@ -179,8 +245,13 @@ fn measured() -> Result<(), String> {
     let writing = memory::allocated(|| {
         black_box(ours::rewrite(&sheet, &mut out));
     });
-    println!("\nallocations of a day in the book: {book}; of five prices: {pricing}; of writing a sheet: {writing}");
-    if book + pricing + writing > 0 {
+    let bids = full_ladder(i32::from);
+    let (numbers, mut ranks) = ([0, 1, 2], [0; MOST_BIDS]);
+    let ladder = memory::allocated(|| {
+        black_box(ours::ladder(&bids, &numbers, &mut ranks));
+    });
+    println!("\nallocations of a day in the book: {book}; of five prices: {pricing}; of writing a sheet: {writing}; of a ladder: {ladder}");
+    if book + pricing + writing + ladder > 0 {
         return Err("more memory than was promised".into());
     }
     Ok(())

@@ -27,6 +27,21 @@ pub struct Day {
     pub priced: usize,
 }
 
+#[repr(C)]
+#[derive(Clone, Copy, Debug, PartialEq, Eq)]
+pub struct Bid {
+    pub cents: i32,
+    pub kw: u32,
+    pub number: u16,
+}
+
+#[repr(C)]
+#[derive(Clone, Copy, Debug, PartialEq, Eq)]
+pub struct Ladder {
+    pub added: usize,
+    pub withdrawn: usize,
+}
+
 extern "C" {
     fn fumeliosa_quarter(bytes: *const u8, len: usize) -> Quarter;
     fn fumeliosa_incentive(bytes: *const u8, len: usize) -> Quarter;
@@ -42,6 +57,14 @@ extern "C" {
         second: *mut i64,
         second_len: usize,
     ) -> Day;
+    fn fumeliosa_bench_ladder(
+        bids: *const Bid,
+        bids_len: usize,
+        numbers: *const u16,
+        numbers_len: usize,
+        ranks: *mut usize,
+        ranks_len: usize,
+    ) -> Ladder;
 }
 
 pub fn quarter(sheet: &[u8]) -> Quarter {
@@ -78,6 +101,20 @@ pub fn day(
             first.len(),
             second.as_mut_ptr(),
             second.len(),
+        )
+    }
+}
+
+pub fn ladder(bids: &[Bid], numbers: &[u16], ranks: &mut [usize]) -> Ladder {
+    // SAFETY: the function reads the first two slices, writes the last, and none overlap.
+    unsafe {
+        fumeliosa_bench_ladder(
+            bids.as_ptr(),
+            bids.len(),
+            numbers.as_ptr(),
+            numbers.len(),
+            ranks.as_mut_ptr(),
+            ranks.len(),
         )
     }
 }

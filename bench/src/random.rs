@@ -1,4 +1,6 @@
-//! Random sheets from a fixed seed, sound and damaged.
+//! Random sheets, sound and damaged, and random bids, from a fixed seed.
+
+use crate::ours::Bid;
 
 /// SplitMix64.
 pub struct Random {
@@ -191,4 +193,27 @@ pub fn day(
         ends.push(sheets.len());
     }
     (sheets, ends)
+}
+
+/// Bids whose numbers and prices are drawn from few or from many, so that numbers stand already and prices tie.
+pub fn bids(random: &mut Random) -> Vec<Bid> {
+    let count = random.below(640);
+    let numbers = [8, 640, 65_536][random.below(3)];
+    let prices = [3, 1_000, 20_000_000][random.below(3)];
+    (0..count)
+        .map(|_| Bid {
+            cents: random.below(prices) as i32 - prices as i32 / 2,
+            kw: 1 + random.below(10_000_000) as u32,
+            number: random.below(numbers) as u16,
+        })
+        .collect()
+}
+
+/// The numbers of the bids in a random order.
+pub fn numbers(random: &mut Random, bids: &[Bid]) -> Vec<u16> {
+    let mut numbers: Vec<u16> = bids.iter().map(|bid| bid.number).collect();
+    for left in (1..numbers.len()).rev() {
+        numbers.swap(left, random.below(left + 1));
+    }
+    numbers
 }

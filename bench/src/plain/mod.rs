@@ -3,6 +3,7 @@
 pub mod book;
 pub mod day;
 pub mod figures;
+pub mod ladder;
 pub mod prices;
 pub mod sheet;
 
