@@ -6,6 +6,9 @@ ghost use Rattle.ladders.specs.Orders.{IsByNumber, IsInOrder};
 
 use crate::item::Item;
 
+/// How many items are turned at once: a run of more than 2,048 bytes would be moved down item by item.
+const AT_ONCE: usize = 128;
+
 /// How many of the items stand before this one.
 pub(crate) fn rank_of<T: Item>(items: &[T], item: T) -> usize
     requires in_order { IsInOrder T.order items.now }
@@ -45,8 +48,8 @@ pub(crate) fn insert_at<T: Copy>(memory: &mut [T], count: usize, at: usize, item
     requires within { at ≤ count }
     ensures { memory.new ≡ insert (take count memory.old) at item ++ drop (count + 1) memory.old }
 {
-    memory.copy_within(at..count, at + 1);
-    memory[at] = item;
+    memory[count] = item;
+    memory[at..count + 1].rotate_right(1);
 }
 
 /// Takes the item at a place out of the first `count`, and puts those behind it one place lower.
@@ -55,5 +58,19 @@ pub(crate) fn remove_at<T: Copy>(memory: &mut [T], count: usize, at: usize)
     requires within { at < count }
     ensures { memory.new ≡ remove (take count memory.old) at ++ drop (count - 1) memory.old }
 {
-    memory.copy_within(at + 1..count, at);
+    let last = memory[count - 1];
+    first_to_last(&mut memory[at..count]);
+    memory[count - 1] = last;
+}
+
+/// Puts the first item behind the others.
+fn first_to_last<T: Copy>(items: &mut [T])
+    ensures { items.new ≡ drop 1 items.old ++ take 1 items.old }
+{
+    let mut place = 0;
+    while 1 < items.len() - place {
+        let part = AT_ONCE.min(items.len() - place);
+        items[place..place + part].rotate_left(1);
+        place += part - 1;
+    }
 }

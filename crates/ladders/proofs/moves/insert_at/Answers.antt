@@ -1,8 +1,5 @@
-use Rattle.std.proofs.Common.{ap, ◌∙◌, set}
 use Rattle.ladders.proofs.Moved.{moved_up}
 use Rattle.ladders.proofs.moves.insert_at.Goals as goal
 
 pub returns : goal.returns
-returns g c =
-    ap (λ l. set l c.args.at c.args.item) c.copy_within.ensures.after
-    ∙ moved_up c.args.memory.now c.args.count c.args.at c.args.item c.requires.room c.requires.within
+returns g c = moved_up c.args.memory.now c.args.count c.args.at c.args.item c.rotate_right.new.self c.requires.room c.requires.within c.rotate_right.ensures.after
