@@ -54,11 +54,15 @@ impl<'a> BidLadders<'a> {
     ghost use Rattle.std.specs.Prelude.{◌≡◌};
     ghost use Rattle.ladder_calls.specs.Standings.{IsSoundStep, answer_of, down_after, down_event, empty, standing_on, up_after, up_event};
     ghost use Rattle.bids.specs.Merit.{down_order, up_order};
-    ghost use Rattle.std.specs.Prelude.{length};
+    ghost use Rattle.bids.specs.declared.kinds.TheConstants.{MOST_BIDS};
+    ghost use Rattle.ladders.specs.Ladders.{Leads};
+    ghost use Rattle.std.specs.Prelude.{[], length, min, IfErr};
 
     /// Both ladders over the memory that is lent for each, with no bid on them.
     pub fn new(up: &'a mut [UpBid], down: &'a mut [DownBid]) -> BidLadders<'a>
-        ensures { standing_on result ≡ empty (length up.old) (length down.old) }
+        ensures none_stands { standing_on result ≡ empty (length up.old) (length down.old) }
+        ensures up_run_begins { Leads up_order MOST_BIDS (min MOST_BIDS (length up.old)) [] result.up }
+        ensures down_run_begins { Leads down_order MOST_BIDS (min MOST_BIDS (length down.old)) [] result.down }
     {
         BidLadders {
             up: Ladder::new(up),
@@ -73,6 +77,7 @@ impl<'a> BidLadders<'a> {
         ensures answers { result ≡ answer_of (standing_on self.old) call }
         ensures up_then { (standing_on self.new).up ≡ up_after (standing_on self.old) call }
         ensures down_then { (standing_on self.new).down ≡ down_after (standing_on self.old) call }
+        ensures refused_unchanged { IfErr result (λ fault. (self.new.up ≡ self.old.up) × (self.new.down ≡ self.old.down)) }
         ensures up_sound { IsSoundStep up_order (up_event (standing_on self.old) call) self.old.up self.new.up }
         ensures down_sound { IsSoundStep down_order (down_event (standing_on self.old) call) self.old.down self.new.down }
     {

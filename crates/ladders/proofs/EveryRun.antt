@@ -150,3 +150,7 @@ module _ {T : Type 0} {g : _} (o : Order T) (strict : IsStrict o) (most : ℕ) (
 
   pub sound_withdrawing : (n : ℕ) (a : Result T LadderFault) → a ≡ withdrawing_answer o n (items_in b) → items_in b' ≡ after_withdrawing o n a (items_in b) → IsSoundCall o most (withdrawing n a) b b'
   sound_withdrawing n a answered left = sound_call (withdrawing n a) (answered, left)
+
+-- no call leads to where nothing stands
+pub none_yet : {T : Type 0} {o : Order T} {places : ℕ} {l : List T} → l ≡ [] → Run o places [] l
+none_yet {T} {o} {places} e = subst (Run o places []) (sym e) begun

@@ -26,6 +26,7 @@ impl<'a, T: Item> Ladder<'a, T> {
     ghost use Rattle.std.specs.Prelude.{◌≡◌, ◌<◌, ◌==◌, [], false, length, min, slice_get, option_and_then, remove, Some, IfErr, IfSome};
 
     /// A ladder on which nothing stands. Its places are `T::MOST`, or fewer where the memory is shorter.
+    #[tactic(auto, using(crate::proofs::EveryRun::none_yet))]
     pub fn new(memory: &'a mut [T]) -> Ladder<'a, T>
         ensures empty { items_in result ≡ [] }
         ensures memory_unchanged { result.memory.now ≡ memory.old }

@@ -18,18 +18,6 @@ pub(crate) fn rank_of<T: Item>(items: &[T], item: T) -> usize
     items.partition_point(|other| other.is_before(item))
 }
 
-// The same, in an order that goes by number, which is searched by halves.
-fn searched<T: Item>(items: &[T], number: u16) -> Option<usize>
-    requires by_number { IsByNumber T.order items.now }
-    ensures first { result ≡ position (λ y. T.order.number y == number) items.now }
-{
-    let place = items.partition_point(|item| item.number() < number);
-    if place < items.len() && items[place].number() == number {
-        return Some(place);
-    }
-    None
-}
-
 /// Where the item of the number stands.
 pub(crate) fn place_of<T: Item>(items: &[T], number: u16) -> Option<usize>
     requires in_order { IsInOrder T.order items.now }
@@ -40,6 +28,18 @@ pub(crate) fn place_of<T: Item>(items: &[T], number: u16) -> Option<usize>
         return searched(items, number);
     }
     items.iter().position(|item| item.number() == number)
+}
+
+// The same, where the numbers rise, by halves.
+fn searched<T: Item>(items: &[T], number: u16) -> Option<usize>
+    requires by_number { IsByNumber T.order items.now }
+    ensures first { result ≡ position (λ y. T.order.number y == number) items.now }
+{
+    let place = items.partition_point(|item| item.number() < number);
+    if place < items.len() && items[place].number() == number {
+        return Some(place);
+    }
+    None
 }
 
 /// Puts the item at a place among the first `count`, and those from there on one place higher.
