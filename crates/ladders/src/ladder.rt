@@ -80,6 +80,7 @@ impl<'a, T: Item> Ladder<'a, T> {
     }
 
     /// Takes the item of the number away, and answers it. Refused with 19 where none stands.
+    #[tactic(auto, using(crate::proofs::EveryRun::sound_withdrawing))]
     pub fn withdraw(&mut self, number: u16) -> Result<T, LadderFault>
         ensures answers { result ≡ withdrawing_answer T.order number (items_in self.old) }
         ensures stands_then { items_in self.new ≡ after_withdrawing T.order number result (items_in self.old) }
