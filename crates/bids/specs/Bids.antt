@@ -1,13 +1,19 @@
 -- A bid of a price and two plain numbers, or the refusal where one is out of bounds.
-use Rattle.std.specs.Prelude.{◌&&◌, Bool, ℤ, pos, Ok, Err, Result, int_le, unsigned_abs, if◌then◌else◌}
+use Rattle.std.specs.Prelude.{◌≡◌, ◌&&◌, Bool, ℤ, pos, Ok, Err, Result, int_le, unsigned_abs, if◌then◌else◌}
 use Rattle.units.specs.Chains.{result_and_then}
 use Rattle.units.specs.declared.price.Price.{Price}
 use Rattle.bids.specs.Numbers.{number_made}
 use Rattle.bids.specs.declared.bid.Bid.{Bid}
 use Rattle.bids.specs.declared.bid.TheConstants.{MOST_QUANTITY}
+use Rattle.bids.specs.declared.kinds.TheConstants.{MOST_BIDS}
 use Rattle.bids.specs.declared.fault.BidFault.{BidFault}
 use Rattle.bids.specs.declared.fault.BidFault.TheVariants.{Quantity}
 use Rattle.bids.specs.declared.row.BidRow.{BidRow}
+
+-- the numbers by which code and definitions go: the greatest quantity in kW, and the most bids on a ladder
+pub record BidBounds : Type 0 where
+  pub quantity : MOST_QUANTITY ≡ 10_000_000
+  pub bids : MOST_BIDS ≡ 512
 
 -- whole kW, from 1 to 10,000,000
 abbrev pub is_quantity : ℤ → Bool

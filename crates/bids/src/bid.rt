@@ -20,12 +20,13 @@ pub struct Bid {
 }
 
 impl Bid {
-    ghost use Rattle.bids.specs.Bids.{as_row, row_made};
+    ghost use Rattle.bids.specs.Bids.{BidBounds, as_row, row_made};
 
     /// A bid of plain numbers. Refused with 20 where the quantity is not from 1 to 10,000,000 kW, then with 5 where the
     /// number is not from 0 to 65,535.
     pub fn new(price: Price, kw: i64, number: i64) -> Result<Bid, BidFault>
-        ensures { as_row result ≡ row_made price kw number }
+        ensures made { as_row result ≡ row_made price kw number }
+        ensures numbers { BidBounds }
     {
         if kw < 1 || kw > i64::from(MOST_QUANTITY) {
             return Err(BidFault::Quantity);

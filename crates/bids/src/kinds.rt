@@ -11,11 +11,11 @@ use source::Direction;
 pub const MOST_BIDS: usize = 512;
 
 /// An up bid on its ladder: the cheapest stands first, equal prices by lower number.
-#[derive(Clone, Copy)]
+#[derive(Clone, Copy, Default)]
 pub struct UpBid(pub BidRow);
 
 /// A down bid on its ladder: the dearest stands first, equal prices by lower number.
-#[derive(Clone, Copy)]
+#[derive(Clone, Copy, Default)]
 pub struct DownBid(pub BidRow);
 
 impl From<Bid> for UpBid {

@@ -6,8 +6,9 @@ ghost use Rattle.bids.specs.Merit.{stands_before};
 use crate::bid::Bid;
 use source::Direction;
 
-/// A price in cents per MWh, a quantity in kW and a bid's number, which need not be in the bounds of a bid.
-#[derive(Clone, Copy, PartialEq, Eq, Debug)]
+/// A price in cents per MWh, a quantity in kW and a bid's number, which need not be in the bounds of a bid: by default
+/// all are 0, as in a memory in which no bid stood yet.
+#[derive(Clone, Copy, PartialEq, Eq, Debug, Default)]
 pub struct BidRow {
     pub cents: i32,
     pub kw: u32,
@@ -27,13 +28,6 @@ impl From<Bid> for BidRow {
 }
 
 impl BidRow {
-    /// What stands in a memory before any bid does: no bid has quantity 0.
-    pub const NO_BID: BidRow = BidRow {
-        cents: 0,
-        kw: 0,
-        number: 0,
-    };
-
     /// Whether it stands before the other in the merit order of a direction.
     pub(crate) fn stands_before(self, direction: Direction, other: BidRow) -> bool
         ensures { result ≡ stands_before direction self other }

@@ -68,7 +68,7 @@ pub extern "C" fn fumeliosa_bench_ladder(
     ensures answers { result ≡ laddered bids.now numbers.now }
     ensures ranks { ranks.new ≡ ranks_over (adding_answers bids.now []) ranks.old }
 {
-    let mut memory = [UpBid(BidRow::NO_BID); MOST_BIDS];
+    let mut memory = [UpBid::default(); MOST_BIDS];
     let mut ladder = Ladder::new(&mut memory);
     let added = add_all(&mut ladder, bids, ranks);
     let withdrawn = withdraw_all(&mut ladder, numbers);

@@ -1,7 +1,7 @@
 // Answers calls over the ladders of bids, one from each line of a text, and prints what stands in the end.
 #![tactic(auto)]
 
-use bids::{BidRow, DownBid, MOST_BIDS, UpBid};
+use bids::{DownBid, MOST_BIDS, UpBid};
 use command::{Failure, Manual, Program, Status, Takes, run};
 use ladder_calls::{AnswerLine, BidLadders, Message, TextFault, read_call};
 use std::io;
@@ -58,8 +58,8 @@ impl Program for LadderProgram {
         input: I,
         _strict: bool,
     ) -> Result<Status, Failure> {
-        let mut up = [UpBid(BidRow::NO_BID); MOST_BIDS];
-        let mut down = [DownBid(BidRow::NO_BID); MOST_BIDS];
+        let mut up = [UpBid::default(); MOST_BIDS];
+        let mut down = [DownBid::default(); MOST_BIDS];
         let mut ladders = BidLadders::new(&mut up, &mut down);
         let mut line = Vec::new(rt.alloc());
         match answer_all(rt, input, &mut ladders, &mut line)? {

@@ -1,5 +1,5 @@
 // The answers of calls and what stands then, as they are printed.
-use bids::{BidRow, DownBid, UpBid};
+use bids::{DownBid, UpBid};
 use ladder_calls::{AnswerLine, BidLadders, read_call};
 use std::alloc::Global;
 use std::test::Fail;
@@ -51,8 +51,8 @@ fn of_numbers_out_of_bounds(rt: HostRuntime) -> Result<(), Fail> {
         ("withdraw down -1", "! 5 3"),
         ("withdraw down 65535", "! 19 65535"),
     ];
-    let mut up = [UpBid(BidRow::NO_BID); 1];
-    let mut down = [DownBid(BidRow::NO_BID); 1];
+    let mut up = [UpBid::default(); 1];
+    let mut down = [DownBid::default(); 1];
     let said = printed(rt.alloc(), &mut up, &mut down, &cases)?;
     assert_eq!(rt; said.as_str(), stated(rt.alloc(), &cases, "")?.as_str());
     Ok(())
@@ -73,8 +73,8 @@ fn in_the_order_of_the_checks(rt: HostRuntime) -> Result<(), Fail> {
         ("withdraw up 7", "! 19 7"),
         ("add up 0.50 2 8", "added up 8 at 0"),
     ];
-    let mut up = [UpBid(BidRow::NO_BID); 1];
-    let mut down = [DownBid(BidRow::NO_BID); 1];
+    let mut up = [UpBid::default(); 1];
+    let mut down = [DownBid::default(); 1];
     let said = printed(rt.alloc(), &mut up, &mut down, &cases)?;
     let standing = "up 0.50 2 8\ndown 0.50 1 7\n";
     assert_eq!(rt;
@@ -96,8 +96,8 @@ fn in_merit_order(rt: HostRuntime) -> Result<(), Fail> {
         ("add down 99999 1 9", "added down 9 at 0"),
         ("withdraw down 0", "withdrawn down -99999.00 1 0"),
     ];
-    let mut up = [UpBid(BidRow::NO_BID); 4];
-    let mut down = [DownBid(BidRow::NO_BID); 4];
+    let mut up = [UpBid::default(); 4];
+    let mut down = [DownBid::default(); 4];
     let said = printed(rt.alloc(), &mut up, &mut down, &cases)?;
     let standing =
         "up 35.00 5000 3\nup 35.00 5000 9\nup 38.50 1 2\nup 41.00 5000 1\ndown 99999.00 1 9\ndown -0.05 10000000 65535\n";

@@ -1,13 +1,13 @@
 // The ladder of three up bids and five down bids, worked by hand.
 use crate::calls::{down, stand, up};
-use bids::{BidRow, DownBid, UpBid};
+use bids::{DownBid, UpBid};
 use ladders::Ladder;
 use std::test::Fail;
 
 // 35, 38, 41: the cheapest first.
 #[test]
 fn upward(rt: HostRuntime) -> Result<(), Fail> {
-    let mut memory = [UpBid(BidRow::NO_BID); 8];
+    let mut memory = [UpBid::default(); 8];
     let mut ladder = Ladder::new(&mut memory);
     assert!(rt; ladder.add(up(4_100, 3)?)? == 0);
     assert!(rt; ladder.add(up(3_500, 1)?)? == 0);
@@ -25,7 +25,7 @@ fn upward(rt: HostRuntime) -> Result<(), Fail> {
 // 31, 28, 15, 14, 11: the dearest first.
 #[test]
 fn downward(rt: HostRuntime) -> Result<(), Fail> {
-    let mut memory = [DownBid(BidRow::NO_BID); 8];
+    let mut memory = [DownBid::default(); 8];
     let mut ladder = Ladder::new(&mut memory);
     assert!(rt; ladder.add(down(1_100, 5)?)? == 0);
     assert!(rt; ladder.add(down(3_100, 1)?)? == 0);

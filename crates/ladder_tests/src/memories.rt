@@ -9,7 +9,7 @@ use std::test::Fail;
 fn mark(number: u16) -> UpBid {
     UpBid(BidRow {
         number,
-        ..BidRow::NO_BID
+        ..BidRow::default()
     })
 }
 

@@ -7,7 +7,7 @@ use std::test::Fail;
 // 18 before 17; 19; and places that are used again.
 #[test]
 fn calls(rt: HostRuntime) -> Result<(), Fail> {
-    let mut memory = [UpBid(BidRow::NO_BID); 2];
+    let mut memory = [UpBid::default(); 2];
     let mut ladder = Ladder::new(&mut memory);
     ladder.add(up(700, 65_535)?)?;
     assert!(rt; refused(ladder.add(up(100, 65_535)?), 18, 65_535));
@@ -36,7 +36,7 @@ fn no_places(rt: HostRuntime) -> Result<(), Fail> {
 // 512 stand at most, whatever the memory.
 #[test]
 fn a_longer_memory(rt: HostRuntime) -> Result<(), Fail> {
-    let mut memory = [UpBid(BidRow::NO_BID); 513];
+    let mut memory = [UpBid::default(); 513];
     let mut ladder = Ladder::new(&mut memory);
     for number in 0..512 {
         ladder.add(up(100, number)?)?;
@@ -44,6 +44,6 @@ fn a_longer_memory(rt: HostRuntime) -> Result<(), Fail> {
     assert!(rt; refused(ladder.add(up(100, 512)?), 17, 512));
     assert!(rt; refused(ladder.add(up(100, 511)?), 18, 511));
     assert!(rt; ladder.len() == 512);
-    assert!(rt; memory[512].0 == BidRow::NO_BID && memory[511].0.number == 511);
+    assert!(rt; memory[512].0 == BidRow::default() && memory[511].0.number == 511);
     Ok(())
 }
