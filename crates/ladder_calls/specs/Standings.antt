@@ -39,17 +39,19 @@ standing_on l = record { up = items_in l.up; down = items_in l.down; up_places =
 abbrev pub empty : (up down : ℕ) → Standing
 empty up down = record { up = []; down = []; up_places = min MOST_BIDS up; down_places = min MOST_BIDS down }
 
--- a bid as an up bid, and as a down bid
+-- a bid as an up bid
 abbrev pub up_bid : BidRow → UpBid
 up_bid row = record { 0 = row }
 
+-- a bid as a down bid
 abbrev pub down_bid : BidRow → DownBid
 down_bid row = record { 0 = row }
 
--- what a ladder answers to an adding and to a withdrawing, as the answer of the call
+-- what a ladder answers to an adding, as the answer of the call
 abbrev pub added : Direction → BidRow → Result ℕ LadderFault → Result Done CallFault
 added d row a = result_and_then (result_map_err a call.Ladder) (λ rank. Ok (Added d row.number rank))
 
+-- what it answers to a withdrawing, likewise
 abbrev pub withdrawn : {T : Type 0} → Direction → (T → BidRow) → Result T LadderFault → Result Done CallFault
 withdrawn d row_in a = result_and_then (result_map_err a call.Ladder) (λ x. Ok (Withdrawn d (row_in x)))
 
@@ -64,11 +66,12 @@ answer_of s (Add Down x) = result_and_then (row_of_numbers x) (λ row. added Dow
 answer_of s (Withdraw Up n) = result_and_then (number_of n) (λ k. withdrawn Up (λ x. x.0) (withdrawing_answer up_order k s.up))
 answer_of s (Withdraw Down n) = result_and_then (number_of n) (λ k. withdrawn Down (λ x. x.0) (withdrawing_answer down_order k s.down))
 
--- what stands after an adding to a ladder, or a withdrawing from it; where the numbers are refused, what stood
+-- what stands after an adding to a ladder; where the numbers are refused, what stood
 abbrev pub after_add : {T : Type 0} → Order T → ℕ → (BidRow → T) → Result BidRow CallFault → List T → List T
 after_add o places as_item (Ok row) l = after_adding o (as_item row) (adding_answer o places (as_item row) l) l
 after_add o places as_item (Err f) l = l
 
+-- what stands after a withdrawing from it, likewise
 abbrev pub after_withdraw : {T : Type 0} → Order T → Result ℕ CallFault → List T → List T
 after_withdraw o (Ok k) l = after_withdrawing o k (withdrawing_answer o k l) l
 after_withdraw o (Err f) l = l
@@ -87,11 +90,12 @@ down_after s (Add Down x) = after_add down_order s.down_places down_bid (row_of_
 down_after s (Withdraw Up n) = s.down
 down_after s (Withdraw Down n) = after_withdraw down_order (number_of n) s.down
 
--- the call that comes to a ladder: an adding or a withdrawing with its answer; none where the numbers are refused
+-- the adding that comes to a ladder, with its answer; none where the numbers are refused
 abbrev pub adding_on : {T : Type 0} → Order T → ℕ → (BidRow → T) → List T → Result BidRow CallFault → Option (Event T)
 adding_on o places as_item l (Ok row) = Some (adding (as_item row) (adding_answer o places (as_item row) l))
 adding_on o places as_item l (Err f) = None
 
+-- the withdrawing that comes to it, likewise
 abbrev pub withdrawing_on : {T : Type 0} → Order T → List T → Result ℕ CallFault → Option (Event T)
 withdrawing_on o l (Ok k) = Some (withdrawing k (withdrawing_answer o k l))
 withdrawing_on o l (Err f) = None

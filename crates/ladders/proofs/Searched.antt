@@ -5,7 +5,8 @@ use Rattle.std.specs.List.Sorted.{IsPartitionPoint, IsPartitionedBy}
 use Rattle.std.proofs.lemmas.Bool.{cases_lt, eq-eqb, eqb-true, lt-ltb, ltb-false, ltb-true, ne_eqb}
 use Rattle.std.proofs.lemmas.List.Quantifiers.{position-Some}
 use Rattle.std.proofs.lemmas.List.Sums.{position_or_len_is}
-use Rattle.ladders.specs.Orders.{GoesByNumber, IsByNumber, IsInOrder, Order}
+use Rattle.ladders.specs.Orders.{GoesByNumber, IsInOrder, Order}
+use Rattle.ladders.specs.Steps.{IsByNumber}
 
 module _ {T : Type 0} (o : Order T) where
   pub rising : {by : Bool} (l : List T) → by ≡ true → GoesByNumber by o → IsInOrder o l → IsByNumber o l

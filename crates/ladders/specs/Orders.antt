@@ -1,5 +1,5 @@
 -- What numbers and orders the items of a kind, and what an order has to keep.
-use Rattle.std.specs.Prelude.{◌≡◌, ◌≢◌, ◌<◌, ℕ, Bool, true, false, List, nat_lt}
+use Rattle.std.specs.Prelude.{◌≡◌, ◌≢◌, ℕ, Bool, true, false, List, nat_lt}
 use Rattle.std.specs.List.{AllPairs}
 
 -- an item's number, and whether an item stands before another
@@ -24,7 +24,3 @@ IsInOrder o l = AllPairs (λ x y. o.is_before x y ≡ true) l
 -- no two items have one number
 abbrev pub HasNumbersOnce : {T : Type 0} → Order T → List T → Type 0
 HasNumbersOnce o l = AllPairs (λ x y. o.number x ≢ o.number y) l
-
--- the numbers rise
-abbrev pub IsByNumber : {T : Type 0} → Order T → List T → Type 0
-IsByNumber o l = AllPairs (λ x y. o.number x < o.number y) l

@@ -2,7 +2,8 @@
 ghost use Rattle.std.specs.Prelude.{◌≡◌, ◌+◌, ◌-◌, ◌<◌, ◌≤◌, ◌==◌, ◌++◌, length, take, drop, insert, remove, IfSome};
 ghost use Rattle.std.specs.List.{position};
 ghost use Rattle.ladders.specs.Lists.{rank_of};
-ghost use Rattle.ladders.specs.Orders.{IsByNumber, IsInOrder};
+ghost use Rattle.ladders.specs.Orders.{IsInOrder};
+ghost use Rattle.ladders.specs.Steps.{IsByNumber};
 
 use crate::item::Item;
 
