@@ -1,3 +1,4 @@
 pub mod Only
+pub mod Outcomes
 pub mod Hex
 pub mod Decided

@@ -1,11 +1,16 @@
 -- The text of one printed line.
-use Rattle.std.specs.Prelude.{ℕ, List, [], ◌∷◌, ◌++◌, ℤ, Ok, Err, decimal, Result}
-use Rattle.pricing.specs.Quotes.{letter}
+use Rattle.std.specs.Prelude.{ℕ, List, [], ◌∷◌, ◌++◌, ℤ, Some, None, Ok, Err, decimal, Option, Result}
+use Rattle.pricing.specs.Outcomes.{Outcome, avoided, directed}
+use Rattle.pricing.specs.Quotes.{letter, quoted_direction}
 use Rattle.pricing.specs.Refusals.{quote_number}
 use Rattle.pricing.specs.declared.fault.QuoteFault.{QuoteFault}
+use Rattle.pricing.specs.declared.fault.QuoteFault.TheVariants.{NoAvoidedValue}
 use Rattle.pricing.specs.declared.quote.Quote.{Quote}
 use Rattle.pricing.specs.declared.quote.QuoteDirection.{QuoteDirection}
+use Rattle.pricing.specs.declared.quote.QuoteDirection.TheVariants.{Avoided}
+use Rattle.units.specs.Rounding.{rounded}
 use Rattle.units.specs.Text.{euros}
+use Rattle.units.specs.declared.price.Price.{Price}
 use Rattle.sheet.specs.Marks.{line_end, refusal_mark, space}
 use Rattle.lines.specs.declared.line.Line.{Line}
 
@@ -25,3 +30,9 @@ answer_text code (Err e) = refusal_text code (quote_number e)
 -- what a line prints
 abbrev pub line_text : Line → List ℕ
 line_text l = answer_text l.code l.answer
+
+-- the line of what a rulebook decides: the rounded price in its direction, or the avoided value, or that there is none
+abbrev pub outcome_text : ℕ → Outcome → Option Price → List ℕ
+outcome_text code (directed d q) a = quote_text code (quoted_direction d) (rounded q.n q.d)
+outcome_text code avoided (Some p) = quote_text code Avoided p.cents
+outcome_text code avoided None = refusal_text code (quote_number NoAvoidedValue)
