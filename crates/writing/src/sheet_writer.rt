@@ -1,5 +1,5 @@
 // A whole sheet, written from any source.
-ghost use Rattle.std.specs.Prelude.{◌≡◌, length, IfOk, IsOkUnless, alloc_error};
+ghost use Rattle.std.specs.Prelude.{◌≡◌, [], length, IfOk, IsOkUnless, alloc_error};
 ghost use Rattle.writing.specs.Bytes.{sheet_bytes};
 ghost use Rattle.writing.specs.Trips.{SameBytes, TellsBack};
 ghost use Rattle.writing.specs.Writes.{left, written};
@@ -11,26 +11,28 @@ use sheet::OPENING;
 use source::{PriceSource, SLOTS, told};
 use std::alloc::{AllocError, Global};
 
-fn sheet_of<S: PriceSource>(source: &S) -> SheetBytes
-    ensures { result.items ≡ sheet_bytes (S.PriceSource.means source.now) }
+// Puts a sheet where its caller keeps it: one that is handed out is zeroed and copied at each hand.
+fn put_sheet<S: PriceSource>(sheet: &mut SheetBytes, source: &S)
+    requires { sheet.old.items ≡ [] }
+    ensures { sheet.new.items ≡ sheet_bytes (S.PriceSource.means source.now) }
 {
-    let mut sheet = SheetBytes::new();
     for byte in OPENING {
         sheet.push(*byte);
     }
-    put_quantity(&mut sheet, source.zone_net());
-    put_avoided(&mut sheet, source.avoided());
+    put_quantity(sheet, source.zone_net());
+    put_avoided(sheet, source.avoided());
     for slot in 0..SLOTS {
-        put_slot(&mut sheet, told(source, slot));
+        put_slot(sheet, told(source, slot));
     }
-    sheet
 }
 
 /// How many bytes the sheet of a source has.
 pub fn sheet_len<S: PriceSource>(source: &S) -> usize
     ensures { result ≡ length (sheet_bytes (S.PriceSource.means source.now)) }
 {
-    sheet_of(source).len()
+    let mut sheet = SheetBytes::new();
+    put_sheet(&mut sheet, source);
+    sheet.len()
 }
 
 /// Writes the sheet of a source and answers its length. Bytes after the sheet's end stay as they are, and
@@ -42,7 +44,8 @@ pub fn write_sheet<S: PriceSource>(source: &S, out: &mut [u8]) -> Result<usize, 
     ensures tells_back { TellsBack (S.PriceSource.means source.now) }
     ensures same_bytes { SameBytes (S.PriceSource.means source.now) }
 {
-    let sheet = sheet_of(source);
+    let mut sheet = SheetBytes::new();
+    put_sheet(&mut sheet, source);
     let needed = sheet.len();
     if out.len() < needed {
         return Err(ShortBuffer { needed });
@@ -59,6 +62,7 @@ pub fn sheet_vec<S: PriceSource>(heap: Global, source: &S) -> Result<Vec<u8>, Al
     ensures tells_back { TellsBack (S.PriceSource.means source.now) }
     ensures same_bytes { SameBytes (S.PriceSource.means source.now) }
 {
-    let sheet = sheet_of(source);
+    let mut sheet = SheetBytes::new();
+    put_sheet(&mut sheet, source);
     Vec::from_slice(heap, sheet.as_slice())
 }

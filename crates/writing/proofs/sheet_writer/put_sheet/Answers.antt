@@ -2,7 +2,7 @@ use Rattle.std.proofs.Common.{◌≡◌, ◌≤◌, length, ap, ◌∙◌, arith
 use Rattle.std.proofs.lemmas.List.{take_all}
 use Rattle.sheet.specs.Heads.{opening}
 use Rattle.writing.proofs.WriteSlots.{all_put, head_put, slot_put}
-use Rattle.writing.proofs.sheet_writer.sheet_of.Goals as goal
+use Rattle.writing.proofs.sheet_writer.put_sheet.Goals as goal
 
 pub loop-slot-init : goal.loop-slot-init
 loop-slot-init g c =

@@ -2,7 +2,7 @@ use Rattle.std.proofs.Common.{◌≡◌, ◌+◌, ◌*◌, ◌≤◌, ◌++◌, 
 use Rattle.sheet.specs.Heads.{opening}
 use Rattle.writing.specs.Bytes.{head_bytes, slots_bytes}
 use Rattle.sheet.specs.declared.length.TheConstants.{HEAD_BYTES, RECORD_BYTES}
-use Rattle.writing.proofs.sheet_writer.sheet_of.Given as goal
+use Rattle.writing.proofs.sheet_writer.put_sheet.Given as goal
 
 abbrev pub invariant-loop-byte : goal.invariant-loop-byte
 invariant-loop-byte g l = l.sheet.items ≡ take l.byte-index opening
